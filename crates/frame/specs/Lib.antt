@@ -1,0 +1,4 @@
+pub mod Message
+pub mod Encoding
+pub mod Reading
+pub mod Writing

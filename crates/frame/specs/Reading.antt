@@ -1,0 +1,112 @@
+-- What a burst says (document 01, "Frames, read from the end"), and numbers 7 to 12, by which it is turned down.
+use mathlib.Core.Bool.{Bool, true, false, not}
+use mathlib.Core.List.{List, [], _∷_}
+use Prim.Native.Nat.{ℕ, zero, suc, _+_, _*_, _-_, _/_, min}
+use lib.Dec.{eqb, ltb}
+use lib.ListN.{length, take, drop, getD, replicate}
+use mathlib.Core.List.{_++_}
+use Rattle.limits.specs.Limits.{fewestBases, mostBases, frameBytes, shortestBurst, longestBurst}
+use Rattle.lists.specs.Choice.{choose, or, first}
+use Rattle.lists.specs.Lists.{nonzero, ascending}
+use Rattle.frame.specs.Message.{Message, announce, verify, correctFinal, verifyFinal, known, expected}
+use Rattle.frame.specs.declared.reader.Reading.{Reading}
+use Rattle.frame.specs.declared.reader.Reading.the-variants.{Message as Said, Refused}
+pub mod Laws
+pub mod Theorems
+
+-- ---- the trailer, "read from the end"
+-- the k-th byte from the end
+unfoldable pub fromEnd : ℕ → List ℕ → ℕ
+fromEnd k s = getD s (length s - k) 0
+
+unfoldable pub kindByte : List ℕ → ℕ
+kindByte s = fromEnd 4 s
+
+unfoldable pub countByte : List ℕ → ℕ
+countByte s = fromEnd 3 s
+
+unfoldable pub backDistance : List ℕ → ℕ
+backDistance s = fromEnd 2 s * 256 + fromEnd 1 s
+
+-- "The back distance counts bytes from the frame's end to the body's start"
+unfoldable pub bodyStart : List ℕ → ℕ
+bodyStart s = length s - backDistance s
+
+unfoldable pub bodyOf : List ℕ → List ℕ
+bodyOf s = take (4 * countByte s) (drop (bodyStart s) s)
+
+-- "A burst may have preamble before the frame; those bytes are skipped."
+unfoldable pub preamble : List ℕ → List ℕ
+preamble s = take (bodyStart s) s
+
+-- ---- the identifiers of a body, four bytes each, high byte first
+unfoldable pub identifier : List ℕ → ℕ
+identifier s = getD s 0 0 * 16777216 + getD s 1 0 * 65536 + getD s 2 0 * 256 + getD s 3 0
+
+unfoldable pub identifiers : ℕ → List ℕ → List ℕ
+identifiers zero s = []
+identifiers (suc k) s = identifier s ∷ identifiers k (drop 4 s)
+
+unfoldable pub idsIn : List ℕ → List ℕ
+idsIn s = identifiers (countByte s) (bodyOf s)
+
+-- ---- numbers by which a burst is turned down, in checking order; 0 for none
+-- 1. n is not 2 to 16.
+unfoldable pub netRefusal : ℕ → ℕ
+netRefusal n = choose (or (ltb n fewestBases) (ltb mostBases n)) 1 0
+
+-- 7. The burst is shorter than 8 or longer than 132 bytes.
+-- 8. The kind is not 1 to 4.
+-- 9. The count is not 1 for kinds 1 and 2, or not n for 3 and 4.
+-- 10. The back distance is not 4 × count + 4, or exceeds the burst.
+unfoldable pub trailerRefusal : ℕ → List ℕ → ℕ
+trailerRefusal n s =
+    choose (or (ltb (length s) shortestBurst) (ltb longestBurst (length s))) 7
+    (choose (not (known (kindByte s))) 8
+    (choose (not (eqb (countByte s) (expected (kindByte s) n))) 9
+    (choose (or (not (eqb (backDistance s) (frameBytes (countByte s)))) (ltb (length s) (backDistance s))) 10
+    0)))
+
+-- 11. An identifier in the body is zero.
+-- 12. A list is not strictly ascending.
+unfoldable pub listRefusal : List ℕ → ℕ
+listRefusal ids =
+    choose (not (nonzero ids)) 11
+    (choose (not (ascending ids)) 12
+    0)
+
+unfoldable pub burstRefusal : ℕ → List ℕ → ℕ
+burstRefusal n s = first (trailerRefusal n s) (listRefusal (idsIn s))
+
+unfoldable pub readRefusal : ℕ → List ℕ → ℕ
+readRefusal n s = first (netRefusal n) (burstRefusal n s)
+
+-- ---- what a burst that is not turned down says
+unfoldable pub message : ℕ → List ℕ → Message
+message kind ids =
+    choose (eqb kind 1) (announce (getD ids 0 0))
+    (choose (eqb kind 2) (verify (getD ids 0 0))
+    (choose (eqb kind 3) (correctFinal ids)
+    (verifyFinal ids)))
+
+unfoldable pub messageOf : List ℕ → Message
+messageOf s = message (kindByte s) (idsIn s)
+
+-- ---- the answers of the reader's calls
+-- "The reader hands back the body as that very stretch of the burst; for a refused burst it gives an empty stretch"
+unfoldable pub stretchStart : ℕ → List ℕ → ℕ
+stretchStart n s = choose (eqb (readRefusal n s) 0) (bodyStart s) 0
+
+unfoldable pub stretch : ℕ → List ℕ → List ℕ
+stretch n s = choose (eqb (readRefusal n s) 0) (bodyOf s) []
+
+-- the reading as an enum: the kind, the count of identifiers and the place of the body, or the number
+unfoldable pub readingOf : ℕ → List ℕ → Reading
+readingOf n s = choose (eqb (readRefusal n s) 0) (Said (kindByte s) (countByte s) (bodyStart s)) (Refused (readRefusal n s))
+
+-- the identifiers of a body in an array of their room, zeros behind; of a longer stretch its first ones
+unfoldable pub padded : List ℕ → List ℕ
+padded ids = ids ++ replicate (mostBases - length ids) 0
+
+unfoldable pub idArray : List ℕ → List ℕ
+idArray s = padded (identifiers (min mostBases (length s / 4)) s)

@@ -1,0 +1,225 @@
+-- What stands in a burst that is a preamble and a frame, and what a burst that is not turned down is made of.
+use mathlib.Core.Path.{_≡_, refl, sym, ap, ap₂, _∙_, subst}
+use mathlib.Core.Logic.{_⊎_, inl, inr}
+use mathlib.Core.Bool.{Bool, true, false, not}
+use mathlib.Core.List.{List, [], _∷_, _++_, append-assoc, append-nil}
+use Prim.Native.Nat.{ℕ, zero, suc, _+_, _*_, _-_, _/_, _%_, _^_, _≤_, _<_}
+use native.Mathlib.Nat.{div-div-eq-div-mul, div-add-mod, mod-eq-of-lt}
+use native.Mathlib.Decide.{decLt}
+use native.Mathlib.Omega.{arith}
+use borrow.Author.Tests.{ltb-false, eqb-true, not-false}
+use lib.Dec.{eqb, ltb}
+use lib.ListN.{length, take, drop, getD, length-append, length-take, length-drop, take-append-drop, drop-of-length-le, List·getD-eq-default}
+use lib.Seq.{take-at, drop-at, drop-cons, drop-drop, getD-drop, getD-take, getD-append-add, take-all}
+use Rattle.limits.specs.Limits.{mostBases, frameBytes, shortestBurst, longestBurst}
+use Rattle.lists.specs.Choice.{choose, or}
+use Rattle.lists.specs.Choice.Laws.{passed, or-false, first-passed}
+use Rattle.lists.specs.Lists.{nonzero, ascending, Below}
+use Rattle.frame.specs.Message.{known, expected}
+use Rattle.frame.specs.Encoding.{twoBytes, fourBytes, body, trailer, frameOf}
+use Rattle.frame.specs.Encoding.Laws.{length-body, length-frame}
+use Rattle.frame.specs.Reading.{fromEnd, kindByte, countByte, backDistance, bodyStart, bodyOf, preamble, identifier, identifiers, idsIn, trailerRefusal, listRefusal, burstRefusal}
+
+-- ---- bytes and identifiers
+pub identifier-of-bytes : (x : ℕ) (rest : List ℕ) → x < 2 ^ 32 → identifier (fourBytes x ++ rest) ≡ x
+unfolding identifier fourBytes
+identifier-of-bytes x rest h =
+    let a : x / 65536 ≡ x / 256 / 256 = sym (div-div-eq-div-mul x 256 256) in
+    let b : x / 16777216 ≡ x / 256 / 256 / 256 = sym (div-div-eq-div-mul x 256 65536) ∙ sym (div-div-eq-div-mul (x / 256) 256 256) in
+    let c : x / 256 / 256 / 256 < 256 = omega arith in
+    rw (a, b, mod-eq-of-lt c)
+    (digits x (x / 256) (x / 256 / 256) (x / 256 / 256 / 256) (x % 256) (x / 256 % 256) (x / 256 / 256 % 256)
+    (sym (div-add-mod x 256)) (sym (div-add-mod (x / 256) 256)) (sym (div-add-mod (x / 256 / 256) 256)))
+  where
+    digits : (x y z w a b c : ℕ) → x ≡ 256 * y + a → y ≡ 256 * z + b → z ≡ 256 * w + c → w * 16777216 + c * 65536 + b * 256 + a ≡ x
+    digits x y z w a b c p q r = omega arith
+
+pub bytes-of-identifier : (a b c d : ℕ) → a < 256 → b < 256 → c < 256 → d < 256 → fourBytes (a * 16777216 + b * 65536 + c * 256 + d) ≡ a ∷ (b ∷ (c ∷ (d ∷ [])))
+unfolding fourBytes
+bytes-of-identifier a b c d p q r s =
+    let e₁ : (a * 16777216 + b * 65536 + c * 256 + d) / 16777216 % 256 ≡ a = omega arith in
+    let e₂ : (a * 16777216 + b * 65536 + c * 256 + d) / 65536 % 256 ≡ b = omega arith in
+    let e₃ : (a * 16777216 + b * 65536 + c * 256 + d) / 256 % 256 ≡ c = omega arith in
+    let e₄ : (a * 16777216 + b * 65536 + c * 256 + d) % 256 ≡ d = omega arith in
+    rw (e₁, e₂, e₃, e₄)
+
+pub identifiers-of-body : (xs rest : List ℕ) → Below (2 ^ 32) xs → identifiers (length xs) (body xs ++ rest) ≡ xs
+unfolding identifiers body
+identifiers-of-body [] rest h = refl
+identifiers-of-body (x ∷ xs) rest h =
+    rw (append-assoc (fourBytes x) (body xs) rest)
+    (ap₂ _∷_ (identifier-of-bytes x (body xs ++ rest) (h 0))
+    (ap (identifiers (length xs)) (drop-at (fourBytes x) (body xs ++ rest) 4 (unfold fourBytes in refl)) ∙ identifiers-of-body xs rest (λ i. h (suc i))))
+
+pub length-identifiers : (k : ℕ) (s : List ℕ) → length (identifiers k s) ≡ k
+unfolding identifiers
+length-identifiers zero s = refl
+length-identifiers (suc k) s = ap suc (length-identifiers k (drop 4 s))
+
+-- ---- bytes below a bound, in a part of a list
+pub below-drop : (m k : ℕ) (s : List ℕ) → Below m s → Below m (drop k s)
+below-drop m k s h i = rw (getD-drop k s i 0) (h (k + i))
+
+pub below-take : (m k : ℕ) (s : List ℕ) → Below m s → Below m (take k s)
+below-take m k s h i = elim (decLt i k) [
+  | yes p ↦ rw (getD-take k s i 0 p) (h i)
+  | no p ↦ rw (List·getD-eq-default (take k s) 0 {n = i} (omega (arith, length-take k s, p))) (omega (arith, h 0))
+]
+
+pub below-identifiers : (k : ℕ) (s : List ℕ) → Below 256 s → Below (2 ^ 32) (identifiers k s)
+unfolding identifiers
+below-identifiers zero s h i = omega arith
+below-identifiers (suc k) s h zero = unfold identifier in omega (arith, h 0, h 1, h 2, h 3)
+below-identifiers (suc k) s h (suc i) = below-identifiers k (drop 4 s) (below-drop 256 4 s h) i
+
+pub below-from-end : (m k : ℕ) (s : List ℕ) → Below m s → fromEnd k s < m
+unfolding fromEnd
+below-from-end m k s h = h (length s - k)
+
+pub length-ids-in : (s : List ℕ) → length (idsIn s) ≡ countByte s
+unfolding idsIn
+length-ids-in s = length-identifiers (countByte s) (bodyOf s)
+
+pub below-ids-in : (s : List ℕ) → Below 256 s → Below (2 ^ 32) (idsIn s)
+unfolding idsIn bodyOf
+below-ids-in s h = below-identifiers (countByte s) (bodyOf s) (below-take 256 (4 * countByte s) (drop (bodyStart s) s) (below-drop 256 (bodyStart s) s h))
+
+-- the bytes of the identifiers that were read
+four-off : (s : List ℕ) → 4 ≤ length s → s ≡ getD s 0 0 ∷ (getD s 1 0 ∷ (getD s 2 0 ∷ (getD s 3 0 ∷ drop 4 s)))
+four-off [] h = absurd (omega arith)
+four-off (a ∷ []) h = absurd (omega arith)
+four-off (a ∷ (b ∷ [])) h = absurd (omega arith)
+four-off (a ∷ (b ∷ (c ∷ []))) h = absurd (omega arith)
+four-off (a ∷ (b ∷ (c ∷ (d ∷ s)))) h = refl
+
+pub body-of-identifiers : (k : ℕ) (s : List ℕ) → Below 256 s → length s ≡ 4 * k → body (identifiers k s) ≡ s
+unfolding body identifiers identifier
+body-of-identifiers zero [] h e = refl
+body-of-identifiers zero (x ∷ s) h e = absurd (omega arith)
+body-of-identifiers (suc k) s h e =
+    ap₂ _++_ (bytes-of-identifier (getD s 0 0) (getD s 1 0) (getD s 2 0) (getD s 3 0) (h 0) (h 1) (h 2) (h 3))
+    (body-of-identifiers k (drop 4 s) (below-drop 256 4 s h) (omega (arith, length-drop 4 s)))
+    ∙ sym (four-off s (omega arith))
+
+-- ---- the trailer of a preamble and a frame
+pub from-end-append : (k : ℕ) (pre s : List ℕ) → k ≤ length s → fromEnd k (pre ++ s) ≡ fromEnd k s
+unfolding fromEnd
+from-end-append k pre s h =
+    let e : length (pre ++ s) - k ≡ length pre + (length s - k) = omega (arith, length-append pre s) in
+    rw e (getD-append-add pre s (length s - k) 0)
+
+module _ (pre : List ℕ) (kind : ℕ) (ids : List ℕ) (few : length ids ≤ mostBases) where
+  abbrev burst : List ℕ
+  burst = pre ++ frameOf kind ids
+
+  pub length-burst : length burst ≡ length pre + frameBytes (length ids)
+  length-burst = length-append pre (frameOf kind ids) ∙ ap (λ (z : ℕ). length pre + z) (length-frame kind ids)
+
+  from-end : (k : ℕ) → k ≤ 4 → fromEnd k burst ≡ fromEnd k (trailer kind (length ids))
+  unfolding frameOf trailer twoBytes
+  from-end k h =
+      ap (fromEnd k) (sym (append-assoc pre (body ids) (trailer kind (length ids))))
+      ∙ from-end-append k (pre ++ body ids) (trailer kind (length ids)) h
+
+  pub kind-is : kindByte burst ≡ kind
+  unfolding kindByte fromEnd trailer twoBytes
+  kind-is = from-end 4 (omega arith)
+
+  pub count-is : countByte burst ≡ length ids
+  unfolding countByte fromEnd trailer twoBytes
+  count-is = from-end 3 (omega arith)
+
+  pub back-is : backDistance burst ≡ frameBytes (length ids)
+  unfolding backDistance fromEnd trailer twoBytes
+  back-is = ap₂ (λ (a b : ℕ). a * 256 + b) (from-end 2 (omega arith)) (from-end 1 (omega arith)) ∙ omega arith
+
+  pub start-is : bodyStart burst ≡ length pre
+  unfolding bodyStart
+  start-is = omega (arith, length-burst, back-is)
+
+  pub body-is : bodyOf burst ≡ body ids
+  unfolding bodyOf frameOf
+  body-is =
+      ap₂ take (ap (λ (z : ℕ). 4 * z) count-is ∙ sym (length-body ids)) (ap (λ (z : ℕ). drop z burst) start-is ∙ drop-at pre (body ids ++ trailer kind (length ids)) (length pre) refl)
+      ∙ take-at (body ids) (trailer kind (length ids)) (length (body ids)) refl
+
+  pub ids-are : Below (2 ^ 32) ids → idsIn burst ≡ ids
+  unfolding idsIn
+  ids-are h = ap₂ identifiers count-is (body-is ∙ sym (append-nil (body ids))) ∙ identifiers-of-body ids [] h
+
+-- ---- what a burst that is not turned down is made of
+pub record Passed (n : ℕ) (s : List ℕ) : Type 0 where
+  pub long : shortestBurst ≤ length s
+  pub short : length s ≤ longestBurst
+  pub kind : known (kindByte s) ≡ true
+  pub count : countByte s ≡ expected (kindByte s) n
+  pub back : backDistance s ≡ frameBytes (countByte s)
+  pub inside : backDistance s ≤ length s
+
+pub trailer-passed : (n : ℕ) (s : List ℕ) → trailerRefusal n s ≡ 0 → Passed n s
+unfolding trailerRefusal
+trailer-passed n s e =
+    let p7 = passed _ 6 _ e in
+    let p8 = passed _ 7 _ (p7 .1) in
+    let p9 = passed _ 8 _ (p8 .1) in
+    let p10 = passed _ 9 _ (p9 .1) in
+    let size = or-false (ltb (length s) shortestBurst) (ltb longestBurst (length s)) (p7 .0) in
+    let distance = or-false (not (eqb (backDistance s) (frameBytes (countByte s)))) (ltb (length s) (backDistance s)) (p10 .0) in
+    record {
+      long = ltb-false (length s) shortestBurst (size .0);
+      short = ltb-false longestBurst (length s) (size .1);
+      kind = not-false (known (kindByte s)) (p8 .0);
+      count = eqb-true (countByte s) (expected (kindByte s) n) (not-false _ (p9 .0));
+      back = eqb-true (backDistance s) (frameBytes (countByte s)) (not-false _ (distance .0));
+      inside = ltb-false (length s) (backDistance s) (distance .1);
+    }
+
+pub list-passed : (ids : List ℕ) → listRefusal ids ≡ 0 → (nonzero ids ≡ true) × (ascending ids ≡ true)
+unfolding listRefusal
+list-passed ids e =
+    let p11 = passed _ 10 _ e in
+    let p12 = passed _ 11 _ (p11 .1) in
+    (not-false _ (p11 .0), not-false _ (p12 .0))
+
+-- the last four bytes
+last-four : (s : List ℕ) → 4 ≤ length s → drop (length s - 4) s ≡ fromEnd 4 s ∷ (fromEnd 3 s ∷ (fromEnd 2 s ∷ (fromEnd 1 s ∷ [])))
+unfolding fromEnd
+last-four s h =
+    let e₄ : suc (length s - 4) ≡ length s - 3 = omega arith in
+    let e₃ : suc (length s - 3) ≡ length s - 2 = omega arith in
+    let e₂ : suc (length s - 2) ≡ length s - 1 = omega arith in
+    let z : drop (suc (length s - 1)) s ≡ [] = drop-of-length-le s {i = suc (length s - 1)} (omega arith) in
+    drop-cons s (length s - 4) 0 (omega arith) ∙ ap (λ (l : List ℕ). getD s (length s - 4) 0 ∷ l)
+    (ap (λ (k : ℕ). drop k s) e₄ ∙ drop-cons s (length s - 3) 0 (omega arith) ∙ ap (λ (l : List ℕ). getD s (length s - 3) 0 ∷ l)
+    (ap (λ (k : ℕ). drop k s) e₃ ∙ drop-cons s (length s - 2) 0 (omega arith) ∙ ap (λ (l : List ℕ). getD s (length s - 2) 0 ∷ l)
+    (ap (λ (k : ℕ). drop k s) e₂ ∙ drop-cons s (length s - 1) 0 (omega arith) ∙ ap (λ (l : List ℕ). getD s (length s - 1) 0 ∷ l) z)))
+
+module _ (n : ℕ) (s : List ℕ) (bytes : Below 256 s) (P : Passed n s) where
+  pub length-body-of : length (bodyOf s) ≡ 4 * countByte s
+  unfolding bodyOf bodyStart
+  length-body-of = omega (arith, P, length-take (4 * countByte s) (drop (length s - backDistance s) s), length-drop (length s - backDistance s) s)
+
+  trailer-of : drop (length s - 4) s ≡ trailer (kindByte s) (countByte s)
+  unfolding trailer twoBytes backDistance kindByte countByte
+  trailer-of = last-four s (omega (arith, P)) ∙ ap₂ (λ (a b : ℕ). fromEnd 4 s ∷ (fromEnd 3 s ∷ (a ∷ (b ∷ [])))) high low
+    where
+      distance : fromEnd 2 s * 256 + fromEnd 1 s ≡ frameBytes (fromEnd 3 s)
+      distance = P .back
+
+      high : fromEnd 2 s ≡ frameBytes (fromEnd 3 s) / 256 % 256
+      high = rw (← distance) (omega (arith, below-from-end 256 2 s bytes, below-from-end 256 1 s bytes))
+
+      low : fromEnd 1 s ≡ frameBytes (fromEnd 3 s) % 256
+      low = rw (← distance) (omega (arith, below-from-end 256 1 s bytes))
+
+  pub burst-of : s ≡ preamble s ++ frameOf (kindByte s) (idsIn s)
+  unfolding preamble frameOf idsIn
+  burst-of =
+      sym (take-append-drop (bodyStart s) s) ∙ ap (λ (l : List ℕ). take (bodyStart s) s ++ l)
+      (sym (take-append-drop (4 * countByte s) (drop (bodyStart s) s)) ∙ ap₂ _++_ front (drop-drop (4 * countByte s) (bodyStart s) s ∙ ap (λ (k : ℕ). drop k s) end ∙ trailer-of ∙ ap (trailer (kindByte s)) (sym (length-identifiers (countByte s) (bodyOf s)))))
+    where
+      end : bodyStart s + 4 * countByte s ≡ length s - 4
+      end = unfold bodyStart in omega (arith, P)
+
+      front : take (4 * countByte s) (drop (bodyStart s) s) ≡ body (identifiers (countByte s) (bodyOf s))
+      front = unfold bodyOf in sym (body-of-identifiers (countByte s) (bodyOf s) (below-take 256 (4 * countByte s) (drop (bodyStart s) s) (below-drop 256 (bodyStart s) s bytes)) length-body-of)

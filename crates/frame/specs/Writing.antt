@@ -1,0 +1,58 @@
+-- What the writer's calls answer and leave in the output (document 01, "Frames, read from the end" and "Turning calls down").
+use mathlib.Core.Bool.{Bool, true, false, not}
+use mathlib.Core.List.{List, [], _∷_, _++_}
+use Prim.Native.Nat.{ℕ, _+_, _*_, _-_}
+use lib.Dec.{eqb, ltb, leb}
+use lib.ListN.{length}
+use Rattle.limits.specs.Limits.{mostBases, frameBytes}
+use Rattle.lists.specs.Choice.{choose, and, first}
+use Rattle.frame.specs.Message.{known, expected}
+use Rattle.frame.specs.Encoding.{frameOf, over}
+use Rattle.frame.specs.Reading.{netRefusal, listRefusal}
+use Rattle.frame.specs.declared.writer.Written.{Written}
+use Rattle.frame.specs.declared.writer.Written.the-variants.{Length, Refused}
+pub mod Laws
+
+-- ---- a frame at the front of an output, where it has the room
+unfoldable pub fits : ℕ → ℕ → Bool
+fits count room = and (leb count mostBases) (leb (frameBytes count) room)
+
+unfoldable pub putLength : ℕ → ℕ → ℕ
+putLength count room = choose (fits count room) (frameBytes count) 0
+
+unfoldable pub putOutput : ℕ → List ℕ → List ℕ → List ℕ
+putOutput kind ids output = choose (fits (length ids) (length output)) (over (frameOf kind ids) output) output
+
+-- two frames of the same identifiers, one after the other, where the output has the room for both
+unfoldable pub twoFit : ℕ → ℕ → Bool
+twoFit count room = and (leb count mostBases) (leb (2 * frameBytes count) room)
+
+unfoldable pub twoLength : ℕ → ℕ → ℕ
+twoLength count room = choose (twoFit count room) (frameBytes count) 0
+
+unfoldable pub twoOutput : ℕ → ℕ → List ℕ → List ℕ → List ℕ
+twoOutput kind next ids output = choose (twoFit (length ids) (length output)) (over (frameOf kind ids ++ frameOf next ids) output) output
+
+-- ---- a message by its kind and identifiers, or the number by which it is turned down; 0 for none
+unfoldable pub lengthOf : ℕ → ℕ → ℕ
+lengthOf kind n = choose (known kind) (frameBytes (expected kind n)) 0
+
+-- 1. n is not 2 to 16.
+-- 6. The output is shorter than the frame, and so than 136 bytes.
+-- 8. The kind is not 1 to 4.
+-- 9. The count is not 1 for kinds 1 and 2, or not n for 3 and 4.
+-- 11. An identifier in the body is zero.
+-- 12. A list is not strictly ascending.
+unfoldable pub writeRefusal : ℕ → ℕ → List ℕ → ℕ → ℕ
+writeRefusal n kind ids room =
+    first (netRefusal n)
+    (choose (ltb room (lengthOf kind n)) 6
+    (choose (not (known kind)) 8
+    (choose (not (eqb (length ids) (expected kind n))) 9
+    (listRefusal ids))))
+
+unfoldable pub writtenOf : ℕ → ℕ → List ℕ → ℕ → Written
+writtenOf n kind ids room = choose (eqb (writeRefusal n kind ids room) 0) (Length (lengthOf kind n)) (Refused (writeRefusal n kind ids room))
+
+unfoldable pub writeOutput : ℕ → ℕ → List ℕ → List ℕ → List ℕ
+writeOutput n kind ids output = choose (eqb (writeRefusal n kind ids (length output)) 0) (over (frameOf kind ids) output) output

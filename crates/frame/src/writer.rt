@@ -1,0 +1,5 @@
+// Frames written.
+pub enum Written {
+    Length(usize),
+    Refused(u8),
+}

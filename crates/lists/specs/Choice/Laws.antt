@@ -1,0 +1,69 @@
+-- Laws of choices: what holds of both ways holds of the choice, and what a chain of checks that gives no number tells.
+use mathlib.Core.Path.{_≡_, refl, sym, ap, _∙_}
+use mathlib.Core.Logic.{_⊎_, inl, inr}
+use mathlib.Core.Bool.{Bool, true, false, not}
+use Prim.Native.Nat.{ℕ, suc}
+use native.Mathlib.Omega.{arith}
+use borrow.Author.Tests.{eq-eqb, ne-eqb, eqb-true}
+use lib.Dec.{eqb}
+use Rattle.lists.specs.Choice.{choose, and, or, first}
+
+-- ---- choose
+pub choose-yes : {A : Type 0} {t : Bool} (a b : A) → t ≡ true → choose t a b ≡ a
+unfolding choose
+choose-yes a b e = rw e
+
+pub choose-no : {A : Type 0} {t : Bool} (a b : A) → t ≡ false → choose t a b ≡ b
+unfolding choose
+choose-no a b e = rw e
+
+pub choose-ind : {A : Type 0} (P : A → Type 0) (t : Bool) {a b : A} → (t ≡ true → P a) → (t ≡ false → P b) → P (choose t a b)
+unfolding choose
+choose-ind P true f g = f refl
+choose-ind P false f g = g refl
+
+-- ---- and, or
+pub and-true : (a b : Bool) → and a b ≡ true → (a ≡ true) × (b ≡ true)
+unfolding and
+and-true true b e = (refl, e)
+and-true false b e = absurd (let z : _≡_ {A = ℕ} 0 1 = cc in omega arith)
+
+pub or-true : (a b : Bool) → or a b ≡ true → (a ≡ true) ⊎ (b ≡ true)
+unfolding or
+or-true true b e = inl refl
+or-true false b e = inr e
+
+pub or-false : (a b : Bool) → or a b ≡ false → (a ≡ false) × (b ≡ false)
+unfolding or
+or-false true b e = absurd (let z : _≡_ {A = ℕ} 0 1 = cc in omega arith)
+or-false false b e = (refl, e)
+
+pub or-neither : {a b : Bool} → a ≡ false → b ≡ false → or a b ≡ false
+unfolding or
+or-neither p q = rw (p, q)
+
+-- ---- checks in a row: a number of at least 1 is given by the first test that holds
+pub passed : (t : Bool) (k r : ℕ) → choose t (suc k) r ≡ 0 → (t ≡ false) × (r ≡ 0)
+unfolding choose
+passed true k r e = absurd (omega arith)
+passed false k r e = (refl, e)
+
+pub passes : {t : Bool} (k : ℕ) {r : ℕ} → t ≡ false → r ≡ 0 → choose t k r ≡ 0
+unfolding choose
+passes k e f = rw e f
+
+pub first-none : {a : ℕ} (b : ℕ) → a ≡ 0 → first a b ≡ b
+unfolding first
+first-none {a} b e = choose-yes b a (eq-eqb a 0 e)
+
+pub first-given : {a : ℕ} (b : ℕ) → (a ≡ 0 → ⊥) → first a b ≡ a
+unfolding first
+first-given {a} b e = choose-no b a (ne-eqb a 0 e)
+
+pub first-passed : (a b : ℕ) → first a b ≡ 0 → (a ≡ 0) × (b ≡ 0)
+unfolding first choose
+first-passed a b e = go (eqb a 0) refl e
+  where
+    go : (t : Bool) → eqb a 0 ≡ t → choose t b a ≡ 0 → (a ≡ 0) × (b ≡ 0)
+    go true p q = (eqb-true a 0 p, q)
+    go false p q = (q, absurd (let z : _≡_ {A = Bool} true false = sym (eq-eqb a 0 q) ∙ p in let y : _≡_ {A = ℕ} 0 1 = cc in omega arith))
