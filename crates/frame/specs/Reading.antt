@@ -5,7 +5,8 @@ use Prim.Native.Nat.{ℕ, zero, suc, _+_, _*_, _-_, _/_, min}
 use lib.Dec.{eqb, ltb}
 use lib.ListN.{length, take, drop, getD, replicate}
 use mathlib.Core.List.{_++_}
-use Rattle.limits.specs.Limits.{fewestBases, mostBases, frameBytes, shortestBurst, longestBurst}
+use Rattle.limits.specs.Limits.{mostBases, frameBytes, shortestBurst, longestBurst}
+use Rattle.limits.specs.Refusals.{netRefusal}
 use Rattle.lists.specs.Choice.{choose, or, first}
 use Rattle.lists.specs.Lists.{nonzero, ascending}
 use Rattle.frame.specs.Message.{Message, announce, verify, correctFinal, verifyFinal, known, expected}
@@ -50,11 +51,7 @@ identifiers (suc k) s = identifier s ∷ identifiers k (drop 4 s)
 unfoldable pub idsIn : List ℕ → List ℕ
 idsIn s = identifiers (countByte s) (bodyOf s)
 
--- ---- numbers by which a burst is turned down, in checking order; 0 for none
--- 1. n is not 2 to 16.
-unfoldable pub netRefusal : ℕ → ℕ
-netRefusal n = choose (or (ltb n fewestBases) (ltb mostBases n)) 1 0
-
+-- ---- numbers by which a burst is turned down, in checking order; 0 for none. Number 1 comes before them.
 -- 7. The burst is shorter than 8 or longer than 132 bytes.
 -- 8. The kind is not 1 to 4.
 -- 9. The count is not 1 for kinds 1 and 2, or not n for 3 and 4.

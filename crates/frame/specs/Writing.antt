@@ -8,30 +8,29 @@ use Rattle.limits.specs.Limits.{mostBases, frameBytes}
 use Rattle.lists.specs.Choice.{choose, and, first}
 use Rattle.frame.specs.Message.{known, expected}
 use Rattle.frame.specs.Encoding.{frameOf, over}
-use Rattle.frame.specs.Reading.{netRefusal, listRefusal}
+use Rattle.frame.specs.Reading.{listRefusal}
+use Rattle.limits.specs.Refusals.{netRefusal}
 use Rattle.frame.specs.declared.writer.Written.{Written}
 use Rattle.frame.specs.declared.writer.Written.the-variants.{Length, Refused}
 pub mod Laws
 
--- ---- a frame at the front of an output, where it has the room
-unfoldable pub fits : ℕ → ℕ → Bool
-fits count room = and (leb count mostBases) (leb (frameBytes count) room)
+-- ---- frames at the front of an output, where it has the room for all of them
+unfoldable pub fits : ℕ → ℕ → ℕ → Bool
+fits count bytes room = and (leb count mostBases) (leb bytes room)
 
+-- one frame
 unfoldable pub putLength : ℕ → ℕ → ℕ
-putLength count room = choose (fits count room) (frameBytes count) 0
+putLength count room = choose (fits count (frameBytes count) room) (frameBytes count) 0
 
 unfoldable pub putOutput : ℕ → List ℕ → List ℕ → List ℕ
-putOutput kind ids output = choose (fits (length ids) (length output)) (over (frameOf kind ids) output) output
+putOutput kind ids output = choose (fits (length ids) (frameBytes (length ids)) (length output)) (over (frameOf kind ids) output) output
 
--- two frames of the same identifiers, one after the other, where the output has the room for both
-unfoldable pub twoFit : ℕ → ℕ → Bool
-twoFit count room = and (leb count mostBases) (leb (2 * frameBytes count) room)
-
+-- two frames of the same identifiers, one after the other
 unfoldable pub twoLength : ℕ → ℕ → ℕ
-twoLength count room = choose (twoFit count room) (frameBytes count) 0
+twoLength count room = choose (fits count (2 * frameBytes count) room) (frameBytes count) 0
 
 unfoldable pub twoOutput : ℕ → ℕ → List ℕ → List ℕ → List ℕ
-twoOutput kind next ids output = choose (twoFit (length ids) (length output)) (over (frameOf kind ids ++ frameOf next ids) output) output
+twoOutput kind next ids output = choose (fits (length ids) (2 * frameBytes (length ids)) (length output)) (over (frameOf kind ids ++ frameOf next ids) output) output
 
 -- ---- a message by its kind and identifiers, or the number by which it is turned down; 0 for none
 unfoldable pub lengthOf : ℕ → ℕ → ℕ

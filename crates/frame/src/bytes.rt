@@ -27,7 +27,7 @@ pub(crate) fn identifier_at(s: &[u8], at: usize) -> u32
     joined(s[at], s[at + 1], s[at + 2], s[at + 3])
 }
 
-fn put_four(out: &mut [u8], at: usize, a: u8, b: u8, c: u8, d: u8)
+pub(crate) fn put_four(out: &mut [u8], at: usize, a: u8, b: u8, c: u8, d: u8)
     requires { ⌜ at + 4 ≤ length (now out) ⌝ }
     ensures { λ r. ⌜ now (out .exit) ≡ take at (now (out .entry)) ++ ((a ∷ (b ∷ (c ∷ (d ∷ [])))) ++ drop (at + 4) (now (out .entry))) ⌝ }
 {

@@ -9,8 +9,11 @@ use borrow.Author.Tests.{eq-eqb, eqb-true}
 use lib.Dec.{eqb}
 use lib.ListN.{length}
 use Rattle.lists.specs.Choice.{choose, or}
-use Rattle.lists.specs.Choice.Laws.{or-true, choose-ind}
-use Rattle.frame.specs.Message.{Message, announce, verify, correctFinal, verifyFinal, kindOf, idsOf, holdsOne, holdsList, known, expected}
+use Rattle.lists.specs.Choice.Laws.{or-true, choose-ind, choose-yes}
+use Rattle.limits.specs.Limits.{frameBytes}
+use Rattle.frame.specs.declared.kind.Shape.{Shape}
+use Rattle.frame.specs.declared.kind.Shape.the-variants.{Known, Unknown}
+use Rattle.frame.specs.Message.{Message, announce, verify, correctFinal, verifyFinal, kindOf, idsOf, holdsOne, holdsList, known, expected, shapeOf}
 
 pub known-kind : (m : Message) → known (kindOf m) ≡ true
 unfolding kindOf known holdsOne holdsList or
@@ -37,3 +40,27 @@ expected-range kind n most low high = choose-ind (λ (c : ℕ). (1 ≤ c) × (c 
 pub expected-cases : (kind n : ℕ) → (expected kind n ≡ 1) ⊎ (expected kind n ≡ n)
 unfolding expected
 expected-cases kind n = choose-ind (λ (c : ℕ). (c ≡ 1) ⊎ (c ≡ n)) (holdsOne kind) (λ _. inl refl) (λ _. inr refl)
+
+-- ---- what a kind's shape says
+variant : Shape → Bool
+variant (Known c l) = true
+variant Unknown = false
+
+shape-variant : (kind n : ℕ) → variant (shapeOf kind n) ≡ known kind
+unfolding shapeOf choose variant
+shape-variant kind n = go (known kind)
+  where
+    go : (t : Bool) → variant (choose t (Known (expected kind n) (frameBytes (expected kind n))) Unknown) ≡ t
+    go true = refl
+    go false = refl
+
+pub shape-unknown : (kind n : ℕ) → shapeOf kind n ≡ Unknown → known kind ≡ false
+unfolding variant
+shape-unknown kind n e = sym (shape-variant kind n) ∙ ap variant e
+
+pub shape-known : (kind n : ℕ) {count length : ℕ} → shapeOf kind n ≡ Known count length → (known kind ≡ true) × ((count ≡ expected kind n) × (length ≡ frameBytes (expected kind n)))
+unfolding variant shapeOf
+shape-known kind n {count} {length} e =
+    let k : known kind ≡ true = sym (shape-variant kind n) ∙ ap variant e in
+    let s : Known (expected kind n) (frameBytes (expected kind n)) ≡ Known count length = sym (choose-yes (Known (expected kind n) (frameBytes (expected kind n))) Unknown k) ∙ e in
+    (k, ((cc), (cc)))

@@ -3,14 +3,15 @@ use mathlib.Core.Path.{_≡_, refl, sym, ap, ap₂, _∙_, subst}
 use mathlib.Core.Logic.{_⊎_, inl, inr}
 use mathlib.Core.Bool.{Bool, true, false, not}
 use mathlib.Core.List.{List, [], _∷_, _++_, append-assoc, append-nil}
-use Prim.Native.Nat.{ℕ, zero, suc, _+_, _*_, _-_, _/_, _%_, _^_, _≤_, _<_}
+use Prim.Native.Nat.{ℕ, zero, suc, _+_, _*_, _-_, _/_, _%_, _^_, _≤_, _<_, min}
 use native.Mathlib.Nat.{div-div-eq-div-mul, div-add-mod, mod-eq-of-lt}
 use native.Mathlib.Decide.{decLt}
+use native.Mathlib.Numerals.{add-one}
 use native.Mathlib.Omega.{arith}
 use borrow.Author.Tests.{ltb-false, eqb-true, not-false}
 use lib.Dec.{eqb, ltb}
-use lib.ListN.{length, take, drop, getD, length-append, length-take, length-drop, take-append-drop, drop-of-length-le, List·getD-eq-default}
-use lib.Seq.{take-at, drop-at, drop-cons, drop-drop, getD-drop, getD-take, getD-append-add, take-all}
+use lib.ListN.{length, take, drop, getD, length-append, length-take, length-drop, take-append-drop, drop-of-length-le, replicate, set, length-replicate, List·getD-eq-default}
+use lib.Seq.{take-at, drop-at, drop-cons, drop-drop, getD-drop, getD-take, getD-append-add, set-at}
 use Rattle.limits.specs.Limits.{mostBases, frameBytes, shortestBurst, longestBurst}
 use Rattle.lists.specs.Choice.{choose, or}
 use Rattle.lists.specs.Choice.Laws.{passed, or-false, first-passed}
@@ -18,7 +19,7 @@ use Rattle.lists.specs.Lists.{nonzero, ascending, Below}
 use Rattle.frame.specs.Message.{known, expected}
 use Rattle.frame.specs.Encoding.{twoBytes, fourBytes, body, trailer, frameOf}
 use Rattle.frame.specs.Encoding.Laws.{length-body, length-frame}
-use Rattle.frame.specs.Reading.{fromEnd, kindByte, countByte, backDistance, bodyStart, bodyOf, preamble, identifier, identifiers, idsIn, trailerRefusal, listRefusal, burstRefusal}
+use Rattle.frame.specs.Reading.{fromEnd, kindByte, countByte, backDistance, bodyStart, bodyOf, preamble, identifier, identifiers, idsIn, trailerRefusal, listRefusal, padded, idArray}
 
 -- ---- bytes and identifiers
 pub identifier-of-bytes : (x : ℕ) (rest : List ℕ) → x < 2 ^ 32 → identifier (fourBytes x ++ rest) ≡ x
@@ -223,3 +224,35 @@ module _ (n : ℕ) (s : List ℕ) (bytes : Below 256 s) (P : Passed n s) where
 
       front : take (4 * countByte s) (drop (bodyStart s) s) ≡ body (identifiers (countByte s) (bodyOf s))
       front = unfold bodyOf in sym (body-of-identifiers (countByte s) (bodyOf s) (below-take 256 (4 * countByte s) (drop (bodyStart s) s) (below-drop 256 (bodyStart s) s bytes)) length-body-of)
+
+-- ---- the identifiers of a body in an array
+identifiers-snoc : (i : ℕ) (s : List ℕ) → identifiers (suc i) s ≡ identifiers i s ++ (identifier (drop (4 * i) s) ∷ [])
+unfolding identifiers
+identifiers-snoc zero s = refl
+identifiers-snoc (suc i) s =
+    let e : 4 * suc i ≡ 4 + 4 * i = omega arith in
+    ap (λ (l : List ℕ). identifier s ∷ l) (identifiers-snoc i (drop 4 s) ∙ ap (λ (l : List ℕ). identifiers i (drop 4 s) ++ (identifier l ∷ [])) (drop-drop (4 * i) 4 s ∙ ap (λ (k : ℕ). drop k s) (sym e)))
+
+pub padded-next : (i : ℕ) (s : List ℕ) → i < mostBases → set (padded (identifiers i s)) i (identifier (drop (4 * i) s)) ≡ padded (identifiers (i + 1) s)
+unfolding padded
+padded-next i s h =
+    let k = length-identifiers i s in
+    let e : mostBases - length (identifiers i s) ≡ suc (mostBases - (i + 1)) = omega (arith, k) in
+    let f : mostBases - length (identifiers (i + 1) s) ≡ mostBases - (i + 1) = ap (λ (j : ℕ). mostBases - j) (length-identifiers (i + 1) s) in
+    rw (e, f) (set-at (identifiers i s) 0 (replicate (mostBases - (i + 1)) 0) (identifier (drop (4 * i) s)) i k
+    ∙ sym (append-assoc (identifiers i s) (identifier (drop (4 * i) s) ∷ []) (replicate (mostBases - (i + 1)) 0))
+    ∙ ap (λ (l : List ℕ). l ++ replicate (mostBases - (i + 1)) 0) (sym (identifiers-snoc i s) ∙ ap (λ (j : ℕ). identifiers j s) (sym (add-one i))))
+
+-- where no more identifiers stand, or fit, the array is whole
+pub id-array-is : (i : ℕ) (s : List ℕ) → min mostBases (length s / 4) ≡ i → padded (identifiers i s) ≡ idArray s
+unfolding idArray
+id-array-is i s e = ap (λ (k : ℕ). padded (identifiers k s)) (sym e)
+
+pub length-padded : (l : List ℕ) → length l ≤ mostBases → length (padded l) ≡ mostBases
+unfolding padded
+length-padded l h = omega (arith, length-append l (replicate (mostBases - length l) 0), length-replicate {A = ℕ} (mostBases - length l) 0)
+
+-- the first ones of the array are the identifiers of the body
+pub padded-front : (l : List ℕ) (k : ℕ) → length l ≡ k → take k (padded l) ≡ l
+unfolding padded
+padded-front l k e = take-at l (replicate (mostBases - length l) 0) k e

@@ -10,6 +10,8 @@ use borrow.Author.Tests.{le-ltb, eq-eqb}
 use lib.Dec.{eqb, ltb}
 use lib.ListN.{length, getD}
 use Rattle.limits.specs.Limits.{fewestBases, mostBases, frameBytes, shortestBurst, longestBurst}
+use Rattle.limits.specs.Refusals.{netRefusal, NetSize}
+use Rattle.limits.specs.Refusals.Laws.{net-passes}
 use Rattle.lists.specs.Choice.{choose, or, first}
 use Rattle.lists.specs.Choice.Laws.{passes, passed, or-neither, or-false, first-none, first-passed}
 use Rattle.lists.specs.Lists.{nonzero, ascending, Below}
@@ -17,17 +19,8 @@ use Rattle.frame.specs.Message.{Message, announce, verify, correctFinal,
 use Rattle.frame.specs.Message.Laws.{known-kind, known-is, Kind, expected-range, expected-cases}
 use Rattle.frame.specs.Encoding.{body, frameOf, encode}
 use Rattle.frame.specs.Encoding.Laws.{length-frame}
-use Rattle.frame.specs.Reading.{kindByte, countByte, backDistance, bodyOf, bodyStart, preamble, identifiers, idsIn, netRefusal, trailerRefusal, listRefusal, burstRefusal, readRefusal, message, messageOf}
+use Rattle.frame.specs.Reading.{kindByte, countByte, backDistance, bodyOf, bodyStart, preamble, identifiers, idsIn, trailerRefusal, listRefusal, burstRefusal, readRefusal, message, messageOf}
 use Rattle.frame.specs.Reading.Laws.{length-burst, kind-is, count-is, back-is, start-is, body-is, ids-are, Passed, trailer-passed, list-passed, burst-of, length-ids-in, below-ids-in}
-
--- n bases of a net
-pub record Net (n : ℕ) : Type 0 where
-  pub least : fewestBases ≤ n
-  pub most : n ≤ mostBases
-
-net-passes : (n : ℕ) → Net n → netRefusal n ≡ 0
-unfolding netRefusal
-net-passes n N = passes 1 (or-neither (le-ltb n fewestBases (N .least)) (le-ltb mostBases n (N .most))) refl
 
 -- ---- sizes
 -- every encoding is 8 or 4n + 4 bytes
@@ -52,7 +45,7 @@ message-parts (verify g) = refl
 message-parts (correctFinal v) = refl
 message-parts (verifyFinal v) = refl
 
-module _ (n : ℕ) (N : Net n) (pre : List ℕ) (m : Message) (v : Valid n m) (fit : length (pre ++ encode m) ≤ longestBurst) where
+module _ (n : ℕ) (N : NetSize n) (pre : List ℕ) (m : Message) (v : Valid n m) (fit : length (pre ++ encode m) ≤ longestBurst) where
   range : (1 ≤ length (idsOf m)) × (length (idsOf m) ≤ mostBases)
   range = let r = expected-range (kindOf m) n mostBases (omega (arith, N .least)) (N .most) in (omega (arith, r .0, v .count), omega (arith, r .1, v .count))
 
@@ -81,7 +74,7 @@ module _ (n : ℕ) (N : Net n) (pre : List ℕ) (m : Message) (v : Valid n m) (f
   pub read-after-write : ReadsBack n pre m
   unfolding encode readRefusal burstRefusal messageOf
   read-after-write = record {
-    accepted = first-none (first (trailerRefusal n s) (listRefusal (idsIn s))) (net-passes n N) ∙ first-none (listRefusal (idsIn s)) trailer-passes ∙ list-passes;
+    accepted = first-none (first (trailerRefusal n s) (listRefusal (idsIn s))) (net-passes N) ∙ first-none (listRefusal (idsIn s)) trailer-passes ∙ list-passes;
     same-message = ap₂ message (kind-is pre (kindOf m) (idsOf m) (range .1)) (ids-are pre (kindOf m) (idsOf m) (range .1) (v .words)) ∙ message-parts m;
     same-body = body-is pre (kindOf m) (idsOf m) (range .1);
     body-place = start-is pre (kindOf m) (idsOf m) (range .1);
@@ -109,7 +102,7 @@ pub record Sent (n : ℕ) (s : List ℕ) : Type 0 where
   pub fits : length s ≤ longestBurst
   pub is : s ≡ before ++ encode message
 
-module _ (n : ℕ) (N : Net n) (s : List ℕ) (bytes : Below 256 s) where
+module _ (n : ℕ) (N : NetSize n) (s : List ℕ) (bytes : Below 256 s) where
   pub accepted-sent : readRefusal n s ≡ 0 → Sent n s
   unfolding readRefusal burstRefusal encode
   accepted-sent e =
@@ -140,5 +133,5 @@ module _ (n : ℕ) (N : Net n) (s : List ℕ) (bytes : Below 256 s) where
   accepted-exactly = (accepted-sent, sent-accepted)
 
 -- and that message is unique: it is the one that is read
-pub message-unique : (n : ℕ) → Net n → (s : List ℕ) (S : Sent n s) → S .message ≡ messageOf s
+pub message-unique : (n : ℕ) → NetSize n → (s : List ℕ) (S : Sent n s) → S .message ≡ messageOf s
 message-unique n N s S = sym (ap messageOf (S .is) ∙ read-after-write n N (S .before) (S .message) (S .valid) (subst (λ (l : List ℕ). length l ≤ longestBurst) (S .is) (S .fits)) .same-message)

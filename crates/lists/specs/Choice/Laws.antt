@@ -17,6 +17,13 @@ pub choose-no : {A : Type 0} {t : Bool} (a b : A) → t ≡ false → choose t a
 unfolding choose
 choose-no a b e = rw e
 
+-- the same, of a value that is to be the choice
+pub chosen-yes : {A : Type 0} {t : Bool} {x a : A} (b : A) → t ≡ true → x ≡ a → x ≡ choose t a b
+chosen-yes {a = a} b e p = p ∙ sym (choose-yes a b e)
+
+pub chosen-no : {A : Type 0} {t : Bool} {x b : A} (a : A) → t ≡ false → x ≡ b → x ≡ choose t a b
+chosen-no {b = b} a e p = p ∙ sym (choose-no a b e)
+
 pub choose-ind : {A : Type 0} (P : A → Type 0) (t : Bool) {a b : A} → (t ≡ true → P a) → (t ≡ false → P b) → P (choose t a b)
 unfolding choose
 choose-ind P true f g = f refl
@@ -27,6 +34,11 @@ pub and-true : (a b : Bool) → and a b ≡ true → (a ≡ true) × (b ≡ true
 unfolding and
 and-true true b e = (refl, e)
 and-true false b e = absurd (let z : _≡_ {A = ℕ} 0 1 = cc in omega arith)
+
+pub and-no : (a : Bool) → and a false ≡ false
+unfolding and
+and-no true = refl
+and-no false = refl
 
 pub or-true : (a b : Bool) → or a b ≡ true → (a ≡ true) ⊎ (b ≡ true)
 unfolding or

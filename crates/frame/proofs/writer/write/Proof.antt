@@ -1,0 +1,48 @@
+use Rattle.frame.specs.Writing.Laws.{write-passed}
+use Rattle.frame.specs.Writing.{writtenOf, writeOutput}
+use Rattle.lists.specs.Choice.Laws.{chosen-yes, chosen-no}
+use borrow.Author.Tests.{eq-eqb, ne-eqb}
+use mathlib.Core.Path.{refl, sym, ap, _∙_}
+use Prim.Native.Nat.{_≤_}
+use Rattle.frame.specs.declared.writer.Written.the-variants.{Length, Refused}
+use borrow.Author.Needs.{needs}
+use Rattle.frame.proofs.writer.write.Statement.{statement}
+use Rattle.frame.proofs.writer.write.Tie as tie
+use Rattle.frame.proofs.writer.write.Reads as reads
+use Rattle.frame.proofs.writer.write.Lts as lts
+use Rattle.frame.proofs.writer.put_frame.Reads as put-frame-reads
+use Rattle.frame.proofs.writer.write_refusal.Reads as write-refusal-reads
+
+-- src/writer.rt:95:9
+write-refusal-requires : tie.Need-write-refusal-requires
+write-refusal-requires c κs = search needs
+
+-- src/writer.rt:97:9
+returns : tie.Need-returns
+unfolding writtenOf writeOutput
+returns c = 
+    let r = c .before .write-refusal .ensures in
+    let e = ne-eqb _ 0 (λ z. c .if1 .taken (r ∙ z)) in
+    (chosen-no _ e (ap Refused r), chosen-no _ e refl)
+
+-- src/writer.rt:99:9
+put-frame-requires : tie.Need-put-frame-requires
+put-frame-requires c κs = let a = c .before .before .before .before .before .args in
+    let p = write-passed (a .n) (a .kind) (a .ids .now) _ (sym (c .before .before .write-refusal .ensures) ∙ c .before .if1 .left) in (p .few, p .fit)
+
+-- src/writer.rt:92:1
+same-length : tie.Need-same-length
+same-length c = search needs
+
+-- src/writer.rt:92:1
+returns-2 : tie.Need-returns-2
+unfolding writtenOf writeOutput
+returns-2 c = let a = c .before .before .before .before .before .before .before .before .args in
+    let z = sym (c .before .before .before .before .before .write-refusal .ensures) ∙ c .before .before .before .before .if1 .left in
+    let e = eq-eqb _ 0 z in
+    let p = write-passed (a .n) (a .kind) (a .ids .now) _ z in
+    (chosen-yes _ e (ap Length (c .before .before .put-frame .ensures .0 ∙ sym (p .size))), chosen-yes _ e (c .before .before .put-frame .ensures .1))
+
+pub write-spec : {M : Type 1} → statement M
+write-spec =
+    tie.close (tie.spec write-refusal-requires returns put-frame-requires same-length returns-2)
