@@ -9,8 +9,10 @@ ghost use Prim.Native.Nat.{_+_, _≤_};
 ghost use lib.ListN.{length};
 ghost use Rattle.limits.specs.Limits.{mostBases, shortestBurst};
 ghost use Rattle.frame.specs.Reading.{
-    backDistance, trailerRefusal, readRefusal, stretchStart, stretch, readingOf, idArray
+    backDistance, bodyStart, bodyOf, idsIn, trailerRefusal, listRefusal, readRefusal, stretchStart, stretch,
+    readingOf, idArray
 };
+ghost use Rattle.frame.specs.Reading.Laws.{Framed};
 
 // What a reading answers: the message's kind, the count of its identifiers and where they start in the burst, or the number by
 // which the burst is turned down.
@@ -70,4 +72,68 @@ pub fn identifiers(body: &[u8]) -> [u32; MOST_BASES]
         i += 1;
     }
     ids
+}
+
+// The body of a burst whose trailer is right, as that very stretch of the burst.
+fn body_in<'a>(burst: &'a [u8]) -> &'a [u8]
+    requires { ⌜ Framed (now burst) ⌝ }
+    ensures { λ r. ⌜ (now r ≡ bodyOf (now (burst .entry))) × ((r .ptr .0 ≡ burst .entry .ptr .0) × (r .ptr .1 ≡ burst .entry .ptr .1 + bodyStart (now (burst .entry)))) ⌝ }
+{
+    let len = burst.len();
+    let back = back_distance(burst);
+    &burst[len - back..len - 4]
+}
+
+// Numbers 11 and 12, for a burst whose trailer is right.
+fn body_refusal(burst: &[u8]) -> u8
+    requires { ⌜ Framed (now burst) ⌝ }
+    ensures { λ r. ⌜ r ≡ listRefusal (idsIn (now (burst .entry))) ⌝ }
+{
+    let count = wide(burst[burst.len() - 3]);
+    let ids = identifiers(body_in(burst));
+    list_refusal(&ids[..count])
+}
+
+// The number by which a burst is turned down in a net of n bases: 1, then 7 to 12; 0 for none.
+pub fn check(n: usize, burst: &[u8]) -> u8
+    ensures { λ r. ⌜ r ≡ readRefusal n (now (burst .entry)) ⌝ }
+{
+    let net = net_refusal(n);
+    if net != 0 {
+        return net;
+    }
+    let trailer = trailer_refusal(n, burst);
+    if trailer != 0 {
+        return trailer;
+    }
+    body_refusal(burst)
+}
+
+// The body as that very stretch of the burst; an empty stretch, at the burst's beginning, where the burst is turned down.
+pub fn body<'a>(n: usize, burst: &'a [u8]) -> &'a [u8]
+    ensures { λ r. ⌜ (now r ≡ stretch n (now (burst .entry))) × ((r .ptr .0 ≡ burst .entry .ptr .0) × (r .ptr .1 ≡ burst .entry .ptr .1 + stretchStart n (now (burst .entry)))) ⌝ }
+{
+    if check(n, burst) != 0 {
+        return &burst[0..0];
+    }
+    body_in(burst)
+}
+
+// The message's kind, the count of its identifiers and where they start, or the number by which the burst is turned down.
+pub fn read(n: usize, burst: &[u8]) -> Reading
+    ensures { λ r. ⌜ r ≡ readingOf n (now (burst .entry)) ⌝ }
+{
+    let refusal = check(n, burst);
+    if refusal != 0 {
+        return Reading::Refused(refusal);
+    }
+    let len = burst.len();
+    let kind = burst[len - 4];
+    let count = wide(burst[len - 3]);
+    let back = back_distance(burst);
+    Reading::Message {
+        kind,
+        count,
+        start: len - back,
+    }
 }

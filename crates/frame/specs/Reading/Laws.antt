@@ -13,13 +13,16 @@ use lib.Dec.{eqb, ltb}
 use lib.ListN.{length, take, drop, getD, length-append, length-take, length-drop, take-append-drop, drop-of-length-le, replicate, set, length-replicate, List·getD-eq-default}
 use lib.Seq.{take-at, drop-at, drop-cons, drop-drop, getD-drop, getD-take, getD-append-add, set-at}
 use Rattle.limits.specs.Limits.{mostBases, frameBytes, shortestBurst, longestBurst}
-use Rattle.lists.specs.Choice.{choose, or}
+use Rattle.lists.specs.Choice.{choose, or, first}
 use Rattle.lists.specs.Choice.Laws.{passed, or-false, first-passed}
 use Rattle.lists.specs.Lists.{nonzero, ascending, Below}
+use Rattle.limits.specs.Refusals.{NetSize, netRefusal}
+use Rattle.limits.specs.Refusals.Laws.{net-passed}
 use Rattle.frame.specs.Message.{known, expected}
+use Rattle.frame.specs.Message.Laws.{expected-range}
 use Rattle.frame.specs.Encoding.{twoBytes, fourBytes, body, trailer, frameOf}
 use Rattle.frame.specs.Encoding.Laws.{length-body, length-frame}
-use Rattle.frame.specs.Reading.{fromEnd, kindByte, countByte, backDistance, bodyStart, bodyOf, preamble, identifier, identifiers, idsIn, trailerRefusal, listRefusal, padded, idArray}
+use Rattle.frame.specs.Reading.{fromEnd, kindByte, countByte, backDistance, bodyStart, bodyOf, preamble, identifier, identifiers, idsIn, trailerRefusal, listRefusal, burstRefusal, readRefusal, padded, idArray}
 
 -- ---- bytes and identifiers
 pub identifier-of-bytes : (x : ℕ) (rest : List ℕ) → x < 2 ^ 32 → identifier (fourBytes x ++ rest) ≡ x
@@ -175,6 +178,23 @@ trailer-passed n s e =
       inside = ltb-false (length s) (backDistance s) (distance .1);
     }
 
+-- a burst that holds a whole frame of a list that fits, whatever its identifiers are
+pub record Framed (s : List ℕ) : Type 0 where
+  pub long : shortestBurst ≤ length s
+  pub few : countByte s ≤ mostBases
+  pub back : backDistance s ≡ frameBytes (countByte s)
+  pub inside : backDistance s ≤ length s
+
+pub passed-framed : (n : ℕ) (s : List ℕ) → NetSize n → trailerRefusal n s ≡ 0 → Framed s
+passed-framed n s N e =
+    let P = trailer-passed n s e in
+    record {
+      long = P .long;
+      few = omega (arith, P .count, expected-range (kindByte s) n mostBases (omega (arith, N .least)) (N .most) .1);
+      back = P .back;
+      inside = P .inside;
+    }
+
 pub list-passed : (ids : List ℕ) → listRefusal ids ≡ 0 → (nonzero ids ≡ true) × (ascending ids ≡ true)
 unfolding listRefusal
 list-passed ids e =
@@ -195,17 +215,17 @@ last-four s h =
     (ap (λ (k : ℕ). drop k s) e₃ ∙ drop-cons s (length s - 2) 0 (omega arith) ∙ ap (λ (l : List ℕ). getD s (length s - 2) 0 ∷ l)
     (ap (λ (k : ℕ). drop k s) e₂ ∙ drop-cons s (length s - 1) 0 (omega arith) ∙ ap (λ (l : List ℕ). getD s (length s - 1) 0 ∷ l) z)))
 
-module _ (n : ℕ) (s : List ℕ) (bytes : Below 256 s) (P : Passed n s) where
-  pub length-body-of : length (bodyOf s) ≡ 4 * countByte s
-  unfolding bodyOf bodyStart
-  length-body-of = omega (arith, P, length-take (4 * countByte s) (drop (length s - backDistance s) s), length-drop (length s - backDistance s) s)
+pub length-body-of : (s : List ℕ) → Framed s → length (bodyOf s) ≡ 4 * countByte s
+unfolding bodyOf bodyStart
+length-body-of s F = omega (arith, F, length-take (4 * countByte s) (drop (length s - backDistance s) s), length-drop (length s - backDistance s) s)
 
+module _ (s : List ℕ) (bytes : Below 256 s) (F : Framed s) where
   trailer-of : drop (length s - 4) s ≡ trailer (kindByte s) (countByte s)
   unfolding trailer twoBytes backDistance kindByte countByte
-  trailer-of = last-four s (omega (arith, P)) ∙ ap₂ (λ (a b : ℕ). fromEnd 4 s ∷ (fromEnd 3 s ∷ (a ∷ (b ∷ [])))) high low
+  trailer-of = last-four s (omega (arith, F)) ∙ ap₂ (λ (a b : ℕ). fromEnd 4 s ∷ (fromEnd 3 s ∷ (a ∷ (b ∷ [])))) high low
     where
       distance : fromEnd 2 s * 256 + fromEnd 1 s ≡ frameBytes (fromEnd 3 s)
-      distance = P .back
+      distance = F .back
 
       high : fromEnd 2 s ≡ frameBytes (fromEnd 3 s) / 256 % 256
       high = rw (← distance) (omega (arith, below-from-end 256 2 s bytes, below-from-end 256 1 s bytes))
@@ -220,10 +240,10 @@ module _ (n : ℕ) (s : List ℕ) (bytes : Below 256 s) (P : Passed n s) where
       (sym (take-append-drop (4 * countByte s) (drop (bodyStart s) s)) ∙ ap₂ _++_ front (drop-drop (4 * countByte s) (bodyStart s) s ∙ ap (λ (k : ℕ). drop k s) end ∙ trailer-of ∙ ap (trailer (kindByte s)) (sym (length-identifiers (countByte s) (bodyOf s)))))
     where
       end : bodyStart s + 4 * countByte s ≡ length s - 4
-      end = unfold bodyStart in omega (arith, P)
+      end = unfold bodyStart in omega (arith, F)
 
       front : take (4 * countByte s) (drop (bodyStart s) s) ≡ body (identifiers (countByte s) (bodyOf s))
-      front = unfold bodyOf in sym (body-of-identifiers (countByte s) (bodyOf s) (below-take 256 (4 * countByte s) (drop (bodyStart s) s) (below-drop 256 (bodyStart s) s bytes)) length-body-of)
+      front = unfold bodyOf in sym (body-of-identifiers (countByte s) (bodyOf s) (below-take 256 (4 * countByte s) (drop (bodyStart s) s) (below-drop 256 (bodyStart s) s bytes)) (length-body-of s F))
 
 -- ---- the identifiers of a body in an array
 identifiers-snoc : (i : ℕ) (s : List ℕ) → identifiers (suc i) s ≡ identifiers i s ++ (identifier (drop (4 * i) s) ∷ [])
@@ -256,3 +276,27 @@ length-padded l h = omega (arith, length-append l (replicate (mostBases - length
 pub padded-front : (l : List ℕ) (k : ℕ) → length l ≡ k → take k (padded l) ≡ l
 unfolding padded
 padded-front l k e = take-at l (replicate (mostBases - length l) 0) k e
+
+pub body-array : (s : List ℕ) → Framed s → take (countByte s) (idArray (bodyOf s)) ≡ idsIn s
+unfolding idsIn
+body-array s F =
+    let e : min mostBases (length (bodyOf s) / 4) ≡ countByte s = omega (arith, length-body-of s F, F .few) in
+    ap (take (countByte s)) (sym (id-array-is (countByte s) (bodyOf s) e)) ∙ padded-front (identifiers (countByte s) (bodyOf s)) (countByte s) (length-identifiers (countByte s) (bodyOf s))
+
+-- ---- a reading that is not turned down
+pub read-passed : (n : ℕ) (s : List ℕ) → readRefusal n s ≡ 0 → Framed s
+unfolding readRefusal burstRefusal
+read-passed n s e =
+    let p = first-passed (netRefusal n) (first (trailerRefusal n s) (listRefusal (idsIn s))) e in
+    passed-framed n s (net-passed n (p .0)) (first-passed (trailerRefusal n s) (listRefusal (idsIn s)) (p .1) .0)
+
+-- from the body's start to the trailer
+pub stretch-is : (s : List ℕ) (back : ℕ) → Framed s → back ≡ backDistance s → take (length s - 4 - (length s - back)) (drop (length s - back) s) ≡ bodyOf s
+unfolding bodyOf bodyStart
+stretch-is s back F e =
+    let k : length s - 4 - (length s - backDistance s) ≡ 4 * countByte s = omega (arith, F) in
+    rw (e, k)
+
+pub length-id-array : (s : List ℕ) → length (idArray s) ≡ mostBases
+unfolding idArray
+length-id-array s = length-padded (identifiers (min mostBases (length s / 4)) s) (omega (arith, length-identifiers (min mostBases (length s / 4)) s))

@@ -20,7 +20,7 @@ use Rattle.frame.specs.Message.Laws.{known-kind, known-is, Kind, expecte
 use Rattle.frame.specs.Encoding.{body, frameOf, encode}
 use Rattle.frame.specs.Encoding.Laws.{length-frame}
 use Rattle.frame.specs.Reading.{kindByte, countByte, backDistance, bodyOf, bodyStart, preamble, identifiers, idsIn, trailerRefusal, listRefusal, burstRefusal, readRefusal, message, messageOf}
-use Rattle.frame.specs.Reading.Laws.{length-burst, kind-is, count-is, back-is, start-is, body-is, ids-are, Passed, trailer-passed, list-passed, burst-of, length-ids-in, below-ids-in}
+use Rattle.frame.specs.Reading.Laws.{length-burst, kind-is, count-is, back-is, start-is, body-is, ids-are, Passed, trailer-passed, list-passed, passed-framed, burst-of, length-ids-in, below-ids-in}
 
 -- ---- sizes
 -- every encoding is 8 or 4n + 4 bytes
@@ -122,7 +122,7 @@ module _ (n : ℕ) (N : NetSize n) (s : List ℕ) (bytes : Below 256 s) where
           words = subst (Below (2 ^ 32)) (sym (m .1)) (below-ids-in s bytes);
         };
         fits = P .short;
-        is = burst-of n s bytes P ∙ ap (λ (f : List ℕ). preamble s ++ f) (ap₂ frameOf (sym (m .0)) (sym (m .1)));
+        is = burst-of s bytes (passed-framed n s N (r .0)) ∙ ap (λ (f : List ℕ). preamble s ++ f) (ap₂ frameOf (sym (m .0)) (sym (m .1)));
       }
 
   pub sent-accepted : Sent n s → readRefusal n s ≡ 0
