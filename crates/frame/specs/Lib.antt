@@ -1,4 +1,3 @@
 pub mod Message
 pub mod Encoding
 pub mod Reading
-pub mod Writing

@@ -1,17 +1,14 @@
 -- What a burst says (document 01, "Frames, read from the end"), and numbers 7 to 12, by which it is turned down.
-use mathlib.Core.Bool.{Bool, true, false, not}
+use Prim.Native.Nat.{ℕ, zero, suc, _+_, _*_, _-_}
+use mathlib.Core.Bool.{not}
 use mathlib.Core.List.{List, [], _∷_}
-use Prim.Native.Nat.{ℕ, zero, suc, _+_, _*_, _-_, _/_, min}
 use lib.Dec.{eqb, ltb}
-use lib.ListN.{length, take, drop, getD, replicate}
-use mathlib.Core.List.{_++_}
-use Rattle.limits.specs.Limits.{mostBases, frameBytes, shortestBurst, longestBurst}
+use lib.ListN.{length, take, drop, getD}
+use Rattle.limits.specs.Limits.{frameBytes, shortestBurst, longestBurst}
 use Rattle.limits.specs.Refusals.{netRefusal}
 use Rattle.lists.specs.Choice.{choose, or, first}
 use Rattle.lists.specs.Lists.{nonzero, ascending}
 use Rattle.frame.specs.Message.{Message, announce, verify, correctFinal, verifyFinal, known, expected}
-use Rattle.frame.specs.declared.reader.Reading.{Reading}
-use Rattle.frame.specs.declared.reader.Reading.the-variants.{Message as Said, Refused}
 pub mod Laws
 pub mod Theorems
 
@@ -88,22 +85,3 @@ message kind ids =
 
 unfoldable pub messageOf : List ℕ → Message
 messageOf s = message (kindByte s) (idsIn s)
-
--- ---- the answers of the reader's calls
--- "The reader hands back the body as that very stretch of the burst; for a refused burst it gives an empty stretch"
-unfoldable pub stretchStart : ℕ → List ℕ → ℕ
-stretchStart n s = choose (eqb (readRefusal n s) 0) (bodyStart s) 0
-
-unfoldable pub stretch : ℕ → List ℕ → List ℕ
-stretch n s = choose (eqb (readRefusal n s) 0) (bodyOf s) []
-
--- the reading as an enum: the kind, the count of identifiers and the place of the body, or the number
-unfoldable pub readingOf : ℕ → List ℕ → Reading
-readingOf n s = choose (eqb (readRefusal n s) 0) (Said (kindByte s) (countByte s) (bodyStart s)) (Refused (readRefusal n s))
-
--- the identifiers of a body in an array of their room, zeros behind; of a longer stretch its first ones
-unfoldable pub padded : List ℕ → List ℕ
-padded ids = ids ++ replicate (mostBases - length ids) 0
-
-unfoldable pub idArray : List ℕ → List ℕ
-idArray s = padded (identifiers (min mostBases (length s / 4)) s)

@@ -1,7 +1,5 @@
 // What a kind of message holds.
 ghost use mathlib.Core.Path.{_≡_};
-ghost use Prim.Native.Nat.{_≤_};
-ghost use Rattle.limits.specs.Limits.{mostBases};
 ghost use Rattle.frame.specs.Message.{shapeOf};
 
 // The count of identifiers and the frame's length, for a kind that there is.
@@ -10,10 +8,10 @@ pub enum Shape {
     Unknown,
 }
 
-pub(crate) fn shape_of(kind: u8, n: usize) -> Shape
-    requires { ⌜ n ≤ mostBases ⌝ }
+pub fn shape_of(kind: u8, n: u8) -> Shape
     ensures { λ r. ⌜ r ≡ shapeOf kind n ⌝ }
 {
+    let all = n as usize;
     match kind {
         1 => Shape::Known {
             count: 1,
@@ -24,12 +22,12 @@ pub(crate) fn shape_of(kind: u8, n: usize) -> Shape
             length: 8,
         },
         3 => Shape::Known {
-            count: n,
-            length: 4 * n + 4,
+            count: all,
+            length: 4 * all + 4,
         },
         4 => Shape::Known {
-            count: n,
-            length: 4 * n + 4,
+            count: all,
+            length: 4 * all + 4,
         },
         _ => Shape::Unknown,
     }

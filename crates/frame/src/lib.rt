@@ -1,6 +1,3 @@
-// Frames: a message and its bytes, written from the front of an output and read from the end of a burst.
-mod bytes;
-mod kind;
-mod list;
-pub mod reader;
-pub mod writer;
+// A message and its bytes: definitions and theorems in specs/, and the code that the writer and the reader share.
+pub mod kind;
+pub mod list;

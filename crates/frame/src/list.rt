@@ -29,7 +29,7 @@ fn ascends(ids: &[u32]) -> bool
     true
 }
 
-pub(crate) fn list_refusal(ids: &[u32]) -> u8
+pub fn list_refusal(ids: &[u32]) -> u8
     ensures { λ r. ⌜ r ≡ listRefusal (now (ids .entry)) ⌝ }
 {
     if !none_zero(ids) {

@@ -3,7 +3,6 @@ use Prim.Native.Nat.{ℕ, _≤_}
 use lib.Dec.{ltb}
 use Rattle.lists.specs.Choice.{choose, or}
 use Rattle.limits.specs.Limits.{fewestBases, mostBases}
-
 pub mod Laws
 
 -- 1. n is not 2 to 16.

@@ -1,13 +1,12 @@
 -- Sizes of frames, and bytes over an output.
+use Prim.Native.Nat.{ℕ, _+_, _*_, _-_, _≤_}
 use mathlib.Core.Path.{_≡_, refl, sym, ap, _∙_}
 use mathlib.Core.List.{List, [], _∷_, _++_, append-assoc, append-nil}
-use Prim.Native.Nat.{ℕ, _+_, _*_, _-_, _≤_}
 use native.Mathlib.Omega.{arith}
 use lib.ListN.{length, take, drop, length-append, length-drop, drop-of-length-le}
 use lib.Seq.{take-at, drop-at, drop-drop, take-all}
 use Rattle.limits.specs.Limits.{frameBytes}
-use Rattle.frame.specs.Message.{Message, idsOf}
-use Rattle.frame.specs.Encoding.{twoBytes, fourBytes, body, trailer, frameOf, encode, over}
+use Rattle.frame.specs.Encoding.{twoBytes, fourBytes, body, trailer, frameOf, over}
 
 pub length-body : (xs : List ℕ) → length (body xs) ≡ 4 * length xs
 unfolding body fourBytes

@@ -1,11 +1,10 @@
 -- A message's kind is known, and a kind with as many identifiers as it holds is a message's.
+use Prim.Native.Nat.{ℕ, _≤_}
 use mathlib.Core.Path.{_≡_, refl, sym, ap, _∙_}
 use mathlib.Core.Logic.{_⊎_, inl, inr}
 use mathlib.Core.Bool.{Bool, true, false}
-use mathlib.Core.List.{List, [], _∷_}
-use Prim.Native.Nat.{ℕ, _≤_}
 use native.Mathlib.Omega.{arith}
-use borrow.Author.Tests.{eq-eqb, eqb-true}
+use borrow.Author.Tests.{eqb-true}
 use lib.Dec.{eqb}
 use lib.ListN.{length}
 use Rattle.lists.specs.Choice.{choose, or}
@@ -13,7 +12,7 @@ use Rattle.lists.specs.Choice.Laws.{or-true, choose-ind, choose-yes}
 use Rattle.limits.specs.Limits.{frameBytes}
 use Rattle.frame.specs.declared.kind.Shape.{Shape}
 use Rattle.frame.specs.declared.kind.Shape.the-variants.{Known, Unknown}
-use Rattle.frame.specs.Message.{Message, announce, verify, correctFinal, verifyFinal, kindOf, idsOf, holdsOne, holdsList, known, expected, shapeOf}
+use Rattle.frame.specs.Message.{Message, announce, verify, correctFinal, verifyFinal, kindOf, holdsOne, holdsList, known, expected, shapeOf}
 
 pub known-kind : (m : Message) → known (kindOf m) ≡ true
 unfolding kindOf known holdsOne holdsList or

@@ -1,19 +1,17 @@
 -- What stands in a burst that is a preamble and a frame, and what a burst that is not turned down is made of.
-use mathlib.Core.Path.{_≡_, refl, sym, ap, ap₂, _∙_, subst}
-use mathlib.Core.Logic.{_⊎_, inl, inr}
-use mathlib.Core.Bool.{Bool, true, false, not}
+use Prim.Native.Nat.{ℕ, zero, suc, _+_, _*_, _-_, _/_, _%_, _^_, _≤_, _<_}
+use mathlib.Core.Path.{_≡_, refl, sym, ap, ap₂, _∙_}
+use mathlib.Core.Bool.{true, not}
 use mathlib.Core.List.{List, [], _∷_, _++_, append-assoc, append-nil}
-use Prim.Native.Nat.{ℕ, zero, suc, _+_, _*_, _-_, _/_, _%_, _^_, _≤_, _<_, min}
-use native.Mathlib.Nat.{div-div-eq-div-mul, div-add-mod, mod-eq-of-lt}
+use native.Mathlib.Nat.{add-zero, div-div-eq-div-mul, div-add-mod, mod-eq-of-lt}
 use native.Mathlib.Decide.{decLt}
-use native.Mathlib.Numerals.{add-one}
 use native.Mathlib.Omega.{arith}
 use borrow.Author.Tests.{ltb-false, eqb-true, not-false}
 use lib.Dec.{eqb, ltb}
-use lib.ListN.{length, take, drop, getD, length-append, length-take, length-drop, take-append-drop, drop-of-length-le, replicate, set, length-replicate, List·getD-eq-default}
-use lib.Seq.{take-at, drop-at, drop-cons, drop-drop, getD-drop, getD-take, getD-append-add, set-at}
+use lib.ListN.{length, take, drop, getD, length-append, length-take, length-drop, take-append-drop, drop-of-length-le, List·getD-eq-default}
+use lib.Seq.{take-at, drop-at, drop-cons, drop-drop, getD-drop, getD-take, getD-append-add}
 use Rattle.limits.specs.Limits.{mostBases, frameBytes, shortestBurst, longestBurst}
-use Rattle.lists.specs.Choice.{choose, or, first}
+use Rattle.lists.specs.Choice.{first}
 use Rattle.lists.specs.Choice.Laws.{passed, or-false, first-passed}
 use Rattle.lists.specs.Lists.{nonzero, ascending, Below}
 use Rattle.limits.specs.Refusals.{NetSize, netRefusal}
@@ -22,7 +20,7 @@ use Rattle.frame.specs.Message.{known, expected}
 use Rattle.frame.specs.Message.Laws.{expected-range}
 use Rattle.frame.specs.Encoding.{twoBytes, fourBytes, body, trailer, frameOf}
 use Rattle.frame.specs.Encoding.Laws.{length-body, length-frame}
-use Rattle.frame.specs.Reading.{fromEnd, kindByte, countByte, backDistance, bodyStart, bodyOf, preamble, identifier, identifiers, idsIn, trailerRefusal, listRefusal, burstRefusal, readRefusal, padded, idArray}
+use Rattle.frame.specs.Reading.{fromEnd, kindByte, countByte, backDistance, bodyStart, bodyOf, preamble, identifier, identifiers, idsIn, trailerRefusal, listRefusal, burstRefusal, readRefusal}
 
 -- ---- bytes and identifiers
 pub identifier-of-bytes : (x : ℕ) (rest : List ℕ) → x < 2 ^ 32 → identifier (fourBytes x ++ rest) ≡ x
@@ -245,43 +243,17 @@ module _ (s : List ℕ) (bytes : Below 256 s) (F : Framed s) where
       front : take (4 * countByte s) (drop (bodyStart s) s) ≡ body (identifiers (countByte s) (bodyOf s))
       front = unfold bodyOf in sym (body-of-identifiers (countByte s) (bodyOf s) (below-take 256 (4 * countByte s) (drop (bodyStart s) s) (below-drop 256 (bodyStart s) s bytes)) (length-body-of s F))
 
--- ---- the identifiers of a body in an array
-identifiers-snoc : (i : ℕ) (s : List ℕ) → identifiers (suc i) s ≡ identifiers i s ++ (identifier (drop (4 * i) s) ∷ [])
+-- ---- identifiers one by one
+pub identifier-there : (s : List ℕ) (at : ℕ) → getD s at 0 * 16777216 + getD s (at + 1) 0 * 65536 + getD s (at + 2) 0 * 256 + getD s (at + 3) 0 ≡ identifier (drop at s)
+unfolding identifier
+identifier-there s at = simp (getD-drop, add-zero)
+
+pub identifiers-snoc : (i : ℕ) (s : List ℕ) → identifiers (suc i) s ≡ identifiers i s ++ (identifier (drop (4 * i) s) ∷ [])
 unfolding identifiers
 identifiers-snoc zero s = refl
 identifiers-snoc (suc i) s =
     let e : 4 * suc i ≡ 4 + 4 * i = omega arith in
     ap (λ (l : List ℕ). identifier s ∷ l) (identifiers-snoc i (drop 4 s) ∙ ap (λ (l : List ℕ). identifiers i (drop 4 s) ++ (identifier l ∷ [])) (drop-drop (4 * i) 4 s ∙ ap (λ (k : ℕ). drop k s) (sym e)))
-
-pub padded-next : (i : ℕ) (s : List ℕ) → i < mostBases → set (padded (identifiers i s)) i (identifier (drop (4 * i) s)) ≡ padded (identifiers (i + 1) s)
-unfolding padded
-padded-next i s h =
-    let k = length-identifiers i s in
-    let e : mostBases - length (identifiers i s) ≡ suc (mostBases - (i + 1)) = omega (arith, k) in
-    let f : mostBases - length (identifiers (i + 1) s) ≡ mostBases - (i + 1) = ap (λ (j : ℕ). mostBases - j) (length-identifiers (i + 1) s) in
-    rw (e, f) (set-at (identifiers i s) 0 (replicate (mostBases - (i + 1)) 0) (identifier (drop (4 * i) s)) i k
-    ∙ sym (append-assoc (identifiers i s) (identifier (drop (4 * i) s) ∷ []) (replicate (mostBases - (i + 1)) 0))
-    ∙ ap (λ (l : List ℕ). l ++ replicate (mostBases - (i + 1)) 0) (sym (identifiers-snoc i s) ∙ ap (λ (j : ℕ). identifiers j s) (sym (add-one i))))
-
--- where no more identifiers stand, or fit, the array is whole
-pub id-array-is : (i : ℕ) (s : List ℕ) → min mostBases (length s / 4) ≡ i → padded (identifiers i s) ≡ idArray s
-unfolding idArray
-id-array-is i s e = ap (λ (k : ℕ). padded (identifiers k s)) (sym e)
-
-pub length-padded : (l : List ℕ) → length l ≤ mostBases → length (padded l) ≡ mostBases
-unfolding padded
-length-padded l h = omega (arith, length-append l (replicate (mostBases - length l) 0), length-replicate {A = ℕ} (mostBases - length l) 0)
-
--- the first ones of the array are the identifiers of the body
-pub padded-front : (l : List ℕ) (k : ℕ) → length l ≡ k → take k (padded l) ≡ l
-unfolding padded
-padded-front l k e = take-at l (replicate (mostBases - length l) 0) k e
-
-pub body-array : (s : List ℕ) → Framed s → take (countByte s) (idArray (bodyOf s)) ≡ idsIn s
-unfolding idsIn
-body-array s F =
-    let e : min mostBases (length (bodyOf s) / 4) ≡ countByte s = omega (arith, length-body-of s F, F .few) in
-    ap (take (countByte s)) (sym (id-array-is (countByte s) (bodyOf s) e)) ∙ padded-front (identifiers (countByte s) (bodyOf s)) (countByte s) (length-identifiers (countByte s) (bodyOf s))
 
 -- ---- a reading that is not turned down
 pub read-passed : (n : ℕ) (s : List ℕ) → readRefusal n s ≡ 0 → Framed s
@@ -289,14 +261,3 @@ unfolding readRefusal burstRefusal
 read-passed n s e =
     let p = first-passed (netRefusal n) (first (trailerRefusal n s) (listRefusal (idsIn s))) e in
     passed-framed n s (net-passed n (p .0)) (first-passed (trailerRefusal n s) (listRefusal (idsIn s)) (p .1) .0)
-
--- from the body's start to the trailer
-pub stretch-is : (s : List ℕ) (back : ℕ) → Framed s → back ≡ backDistance s → take (length s - 4 - (length s - back)) (drop (length s - back) s) ≡ bodyOf s
-unfolding bodyOf bodyStart
-stretch-is s back F e =
-    let k : length s - 4 - (length s - backDistance s) ≡ 4 * countByte s = omega (arith, F) in
-    rw (e, k)
-
-pub length-id-array : (s : List ℕ) → length (idArray s) ≡ mostBases
-unfolding idArray
-length-id-array s = length-padded (identifiers (min mostBases (length s / 4)) s) (omega (arith, length-identifiers (min mostBases (length s / 4)) s))

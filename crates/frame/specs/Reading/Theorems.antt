@@ -1,26 +1,25 @@
 -- Frames that are written read back as the same message, and nothing else is accepted. Shown for every n of a net.
 -- A slice of bytes holds numbers below 256; in a list that is said beside it (`Below 256 s`), since a list may hold any numbers.
+use Prim.Native.Nat.{ℕ, _+_, _^_, _≤_}
 use mathlib.Core.Path.{_≡_, refl, sym, ap, ap₂, _∙_, subst}
 use mathlib.Core.Logic.{_⊎_, inl, inr, _↔_}
-use mathlib.Core.Bool.{Bool, true, false, not}
+use mathlib.Core.Bool.{not}
 use mathlib.Core.List.{List, [], _∷_, _++_}
-use Prim.Native.Nat.{ℕ, _+_, _*_, _^_, _≤_}
 use native.Mathlib.Omega.{arith}
 use borrow.Author.Tests.{le-ltb, eq-eqb}
-use lib.Dec.{eqb, ltb}
 use lib.ListN.{length, getD}
-use Rattle.limits.specs.Limits.{fewestBases, mostBases, frameBytes, shortestBurst, longestBurst}
+use Rattle.limits.specs.Limits.{mostBases, frameBytes, shortestBurst, longestBurst}
 use Rattle.limits.specs.Refusals.{netRefusal, NetSize}
 use Rattle.limits.specs.Refusals.Laws.{net-passes}
 use Rattle.lists.specs.Choice.{choose, or, first}
-use Rattle.lists.specs.Choice.Laws.{passes, passed, or-neither, or-false, first-none, first-passed}
+use Rattle.lists.specs.Choice.Laws.{passes, or-neither, first-none, first-passed}
 use Rattle.lists.specs.Lists.{nonzero, ascending, Below}
-use Rattle.frame.specs.Message.{Message, announce, verify, correctFinal, verifyFinal, kindOf, idsOf, holdsOne, holdsList, known, expected, Valid}
+use Rattle.frame.specs.Message.{Message, announce, verify, correctFinal, verifyFinal, kindOf, idsOf, holdsOne, known, expected, Valid}
 use Rattle.frame.specs.Message.Laws.{known-kind, known-is, Kind, expected-range, expected-cases}
 use Rattle.frame.specs.Encoding.{body, frameOf, encode}
 use Rattle.frame.specs.Encoding.Laws.{length-frame}
 use Rattle.frame.specs.Reading.{kindByte, countByte, backDistance, bodyOf, bodyStart, preamble, identifiers, idsIn, trailerRefusal, listRefusal, burstRefusal, readRefusal, message, messageOf}
-use Rattle.frame.specs.Reading.Laws.{length-burst, kind-is, count-is, back-is, start-is, body-is, ids-are, Passed, trailer-passed, list-passed, passed-framed, burst-of, length-ids-in, below-ids-in}
+use Rattle.frame.specs.Reading.Laws.{length-burst, kind-is, count-is, back-is, start-is, body-is, ids-are, trailer-passed, list-passed, passed-framed, burst-of, length-ids-in, below-ids-in}
 
 -- ---- sizes
 -- every encoding is 8 or 4n + 4 bytes

@@ -1,22 +1,17 @@
+use borrow.Author.Tests.{lt-ltb, le-ltb}
 use Rattle.limits.specs.Refusals.{netRefusal}
 use Rattle.lists.specs.Choice.{choose, or}
-use borrow.Author.Tests.{lt-ltb, le-ltb}
 use Rattle.limits.proofs.net_refusal.Statement.{statement}
 use Rattle.limits.proofs.net_refusal.Tie as tie
-use Rattle.limits.proofs.net_refusal.Reads as reads
-use Rattle.limits.proofs.net_refusal.Lts as lts
 
--- src/lib.rt:32:9
 returns : tie.Need-returns
 unfolding netRefusal choose or
 returns c = simp (lt-ltb _ _ (c .if1 .taken))
 
--- src/lib.rt:35:9
 returns-2 : tie.Need-returns-2
 unfolding netRefusal choose or
 returns-2 c = simp (le-ltb _ _ (c .before .if1 .left), lt-ltb _ _ (c .if2 .taken))
 
--- src/lib.rt:28:1
 returns-3 : tie.Need-returns-3
 unfolding netRefusal choose or
 returns-3 c = simp (le-ltb _ _ (c .before .if1 .left), le-ltb _ _ (c .if2 .left))

@@ -1,13 +1,11 @@
+use Prim.Native.Nat.{_≤_, _-_}
+use mathlib.Core.Path.{_≡_, refl, sym, _∙_}
+use native.Mathlib.Omega.{arith}
+use lib.ListN.{length, drop}
 use Rattle.lists.specs.Lists.Laws.{ascending-broken, ascending-next, ascending-end}
 use Rattle.lists.specs.Lists.{ascending}
-use lib.ListN.{length, drop}
-use native.Mathlib.Omega.{arith}
-use mathlib.Core.Path.{_≡_, refl, sym, _∙_}
-use Prim.Native.Nat.{_≤_, _-_}
 use Rattle.frame.proofs.list.ascends.Statement.{statement}
 use Rattle.frame.proofs.list.ascends.Tie as tie
-use Rattle.frame.proofs.list.ascends.Reads as reads
-use Rattle.frame.proofs.list.ascends.Lts as lts
 
 abbrev Inv-loop : tie.InvT-loop
 Inv-loop ids i₀ i = (i ≤ length ids) × (ascending ids ≡ ascending (drop i ids))
@@ -15,51 +13,39 @@ Inv-loop ids i₀ i = (i ≤ length ids) × (ascending ids ≡ ascending (drop i
 abbrev μ-loop : tie.MeasureT-loop
 μ-loop ids i₀ i = length ids - i
 
--- src/list.rt:23:5
 loop-holds : tie.Need-loop-holds Inv-loop μ-loop
 loop-holds c = (omega arith, refl)
 
--- src/list.rt:23:11
 add-loop : tie.Need-add-loop Inv-loop μ-loop
 add-loop c = omega arith
 
--- src/list.rt:24:16
 add-if1 : tie.Need-add-if1 Inv-loop μ-loop
 add-if1 c = omega arith
 
--- src/list.rt:24:12
 mul-if1 : tie.Need-mul-if1 Inv-loop μ-loop
 mul-if1 c = omega arith
 
--- src/list.rt:24:12
 shared-slice-read-if1 : tie.Need-shared-slice-read-if1 Inv-loop μ-loop
 shared-slice-read-if1 c = omega arith
 
--- src/list.rt:24:26
 mul-if1-2 : tie.Need-mul-if1-2 Inv-loop μ-loop
 mul-if1-2 c = omega arith
 
--- src/list.rt:24:26
 shared-slice-read-if1-2 : tie.Need-shared-slice-read-if1-2 Inv-loop μ-loop
 shared-slice-read-if1-2 c = omega arith
 
--- src/list.rt:25:13
 returns : tie.Need-returns Inv-loop μ-loop
 returns c = let l = c .before .before .before .before .loop in let s = c .before .before .before .before .before .args .ids .now in sym (l .inv .1 ∙ ascending-broken s (l .i) (omega arith) (c .if1 .taken))
 
--- src/list.rt:27:9
 add-i : tie.Need-add-i Inv-loop μ-loop
 add-i c = omega arith
 
--- src/list.rt:23:5
 loop-less : tie.Need-loop-less Inv-loop μ-loop
 loop-less c = omega arith
 
--- src/list.rt:23:5
 loop-again : tie.Need-loop-again Inv-loop μ-loop
 loop-again c = let l = c .before .before .before .before .loop in let s = c .before .before .before .before .before .args .ids .now in (omega arith, l .inv .1 ∙ ascending-next s (l .i) (omega arith) (c .if1 .left))
 
--- src/list.rt:19:1
 returns-2 : tie.Need-returns-2 Inv-loop μ-loop
 returns-2 c = let l = c .before .loop in let s = c .before .before .args .ids .now in sym (l .inv .1 ∙ ascending-end s (l .i) (omega arith))
 

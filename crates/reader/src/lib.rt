@@ -1,0 +1,155 @@
+// A burst, read from its end.
+mod bytes;
+
+use crate::bytes::identifier_at;
+use crate::bytes::wide;
+use frame::kind::Shape;
+use frame::kind::shape_of;
+use frame::list::list_refusal;
+use limits::LONGEST_BURST;
+use limits::MOST_BASES;
+use limits::SHORTEST_BURST;
+use limits::net_refusal;
+ghost use mathlib.Core.Path.{_≡_};
+ghost use Prim.Native.Nat.{_+_, _≤_};
+ghost use lib.ListN.{length};
+ghost use Rattle.limits.specs.Limits.{mostBases, shortestBurst};
+ghost use Rattle.frame.specs.Reading.{
+  backDistance,
+  bodyStart,
+  bodyOf,
+  idsIn,
+  trailerRefusal,
+  listRefusal,
+  readRefusal,
+};
+ghost use Rattle.frame.specs.Reading.Laws.{Framed};
+ghost use Rattle.reader.specs.Answers.{stretchStart, stretch, readingOf, idArray};
+
+// What a reading answers: the message's kind, the count of its identifiers and where they start in the burst, or the number by
+// which the burst is turned down.
+pub enum Reading {
+    Message {
+        kind: u8,
+        count: usize,
+        start: usize,
+    },
+    Refused(u8),
+}
+
+fn back_distance(burst: &[u8]) -> usize
+    requires { ⌜ shortestBurst ≤ length (now burst) ⌝ }
+    ensures { λ r. ⌜ r ≡ backDistance (now (burst .entry)) ⌝ }
+{
+    let len = burst.len();
+    wide(burst[len - 2]) * 256 + wide(burst[len - 1])
+}
+
+// Numbers 7 to 10: the burst's length and its trailer.
+fn trailer_refusal(n: usize, burst: &[u8]) -> u8
+    requires { ⌜ n ≤ mostBases ⌝ }
+    ensures { λ r. ⌜ r ≡ trailerRefusal n (now (burst .entry)) ⌝ }
+{
+    let len = burst.len();
+    if len < SHORTEST_BURST {
+        return 7;
+    }
+    if LONGEST_BURST < len {
+        return 7;
+    }
+    let kind = burst[len - 4];
+    let Shape::Known { count, length } = shape_of(kind, n as u8) else {
+        return 8;
+    };
+    if wide(burst[len - 3]) != count {
+        return 9;
+    }
+    let back = back_distance(burst);
+    if back != length {
+        return 10;
+    }
+    if len < back {
+        return 10;
+    }
+    0
+}
+
+// The identifiers of a body, four bytes each, with zeros behind them.
+pub fn identifiers(body: &[u8]) -> [u32; MOST_BASES]
+    ensures { λ r. ⌜ r ≡ idArray (now (body .entry)) ⌝ }
+{
+    let mut ids = [0u32; MOST_BASES];
+    let mut i: usize = 0;
+    while i < MOST_BASES {
+        if body.len() < 4 * i + 4 {
+            return ids;
+        }
+        ids[i] = identifier_at(body, 4 * i);
+        i += 1;
+    }
+    ids
+}
+
+// The body of a burst whose trailer is right, as that very stretch of the burst.
+fn body_in<'a>(burst: &'a [u8]) -> &'a [u8]
+    requires { ⌜ Framed (now burst) ⌝ }
+    ensures { λ r. ⌜ (now r ≡ bodyOf (now (burst .entry))) × ((r .ptr .0 ≡ burst .entry .ptr .0) × (r .ptr .1 ≡ burst .entry .ptr .1 + bodyStart (now (burst .entry)))) ⌝ }
+{
+    let len = burst.len();
+    let back = back_distance(burst);
+    &burst[len - back..len - 4]
+}
+
+// Numbers 11 and 12, for a burst whose trailer is right.
+fn body_refusal(burst: &[u8]) -> u8
+    requires { ⌜ Framed (now burst) ⌝ }
+    ensures { λ r. ⌜ r ≡ listRefusal (idsIn (now (burst .entry))) ⌝ }
+{
+    let count = wide(burst[burst.len() - 3]);
+    let ids = identifiers(body_in(burst));
+    list_refusal(&ids[..count])
+}
+
+// The number by which a burst is turned down in a net of n bases: 1, then 7 to 12; 0 for none.
+pub fn check(n: usize, burst: &[u8]) -> u8
+    ensures { λ r. ⌜ r ≡ readRefusal n (now (burst .entry)) ⌝ }
+{
+    let net = net_refusal(n);
+    if net != 0 {
+        return net;
+    }
+    let trailer = trailer_refusal(n, burst);
+    if trailer != 0 {
+        return trailer;
+    }
+    body_refusal(burst)
+}
+
+// The body as that very stretch of the burst; an empty stretch, at the burst's beginning, where the burst is turned down.
+pub fn body<'a>(n: usize, burst: &'a [u8]) -> &'a [u8]
+    ensures { λ r. ⌜ (now r ≡ stretch n (now (burst .entry))) × ((r .ptr .0 ≡ burst .entry .ptr .0) × (r .ptr .1 ≡ burst .entry .ptr .1 + stretchStart n (now (burst .entry)))) ⌝ }
+{
+    if check(n, burst) != 0 {
+        return &burst[0..0];
+    }
+    body_in(burst)
+}
+
+// The message's kind, the count of its identifiers and where they start, or the number by which the burst is turned down.
+pub fn read(n: usize, burst: &[u8]) -> Reading
+    ensures { λ r. ⌜ r ≡ readingOf n (now (burst .entry)) ⌝ }
+{
+    let refusal = check(n, burst);
+    if refusal != 0 {
+        return Reading::Refused(refusal);
+    }
+    let len = burst.len();
+    let kind = burst[len - 4];
+    let count = wide(burst[len - 3]);
+    let back = back_distance(burst);
+    Reading::Message {
+        kind,
+        count,
+        start: len - back,
+    }
+}
