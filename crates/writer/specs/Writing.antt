@@ -13,6 +13,7 @@ use Rattle.limits.specs.Refusals.{netRefusal}
 use Rattle.writer.specs.declared.Written.{Written}
 use Rattle.writer.specs.declared.Written.the-variants.{Length, Refused}
 pub mod Laws
+pub mod Theorems
 
 -- ---- frames at the front of an output, where it has the room for all of them
 unfoldable pub fits : ℕ → ℕ → ℕ → Bool

@@ -86,7 +86,7 @@ one-identifier (x ∷ []) e = refl
 one-identifier (x ∷ (y ∷ l)) e = absurd (omega arith)
 
 -- a known kind and as many identifiers as it holds are those of the message that they make
-parts-message : (kind n : ℕ) (ids : List ℕ) → Kind kind → length ids ≡ expected kind n → (kindOf (message kind ids) ≡ kind) × (idsOf (message kind ids) ≡ ids)
+pub parts-message : (kind n : ℕ) (ids : List ℕ) → Kind kind → length ids ≡ expected kind n → (kindOf (message kind ids) ≡ kind) × (idsOf (message kind ids) ≡ ids)
 unfolding message kindOf idsOf choose expected holdsOne or
 parts-message kind n ids (inl e) h = rw e (refl, one-identifier ids (h ∙ ap (λ (k : ℕ). expected k n) e))
 parts-message kind n ids (inr (inl e)) h = rw e (refl, one-identifier ids (h ∙ ap (λ (k : ℕ). expected k n) e))

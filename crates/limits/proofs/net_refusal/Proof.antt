@@ -1,3 +1,4 @@
+-- `limits::net_refusal` meets its contract: each return is the definition at the tests that led there.
 use borrow.Author.Tests.{lt-ltb, le-ltb}
 use Rattle.limits.specs.Refusals.{netRefusal}
 use Rattle.lists.specs.Choice.{choose, or}

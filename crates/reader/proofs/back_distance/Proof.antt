@@ -1,3 +1,4 @@
+-- `reader::back_distance` meets its contract: two bytes, each below 256, make a number that fits.
 use Prim.Native.Nat.{ℕ, _+_, _*_, _-_}
 use mathlib.Core.Path.{ap₂}
 use native.Mathlib.Omega.{arith}

@@ -1,3 +1,4 @@
+-- `reader::body` meets its contract: a burst that passes the check holds a whole frame.
 use mathlib.Core.Path.{refl, sym, _∙_}
 use native.Mathlib.Omega.{arith}
 use borrow.Author.Tests.{eq-eqb, ne-eqb}

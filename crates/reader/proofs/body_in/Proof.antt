@@ -1,3 +1,4 @@
+-- `reader::body_in` meets its contract: from the back distance up to the trailer there are 4 × count bytes.
 use mathlib.Core.Path.{refl}
 use native.Mathlib.Omega.{arith}
 use borrow.Author.Needs.{needs}

@@ -1,3 +1,4 @@
+-- `reader::body_refusal` meets its contract: the array's first identifiers are those of the burst.
 use Prim.Native.Nat.{_≤_}
 use mathlib.Core.Path.{sym, ap, ap₂, _∙_}
 use native.Mathlib.Omega.{arith}

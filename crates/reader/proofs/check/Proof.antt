@@ -1,3 +1,4 @@
+-- `reader::check` meets its contract: the checks stand in the order of the definition, and what one passes the next may ask.
 use mathlib.Core.Path.{sym, _∙_}
 use borrow.Author.Needs.{needs}
 use Rattle.frame.specs.Reading.Laws.{passed-framed}

@@ -1,3 +1,4 @@
+-- `reader::identifiers` meets its contract. Invariant: the array holds the first i identifiers of the body, zeros behind.
 use Prim.Native.Nat.{ℕ, _≤_, _-_, _*_}
 use mathlib.Core.List.{List}
 use mathlib.Core.Path.{_≡_, refl, ap, _∙_}

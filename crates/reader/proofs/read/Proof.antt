@@ -1,3 +1,4 @@
+-- `reader::read` meets its contract: a burst that passes the check holds a whole frame, whose trailer is read off.
 use Rattle.reader.specs.Answers.{readingOf}
 use Prim.Native.Nat.{ℕ, _-_}
 use mathlib.Core.Path.{sym, ap, ap₂, _∙_}

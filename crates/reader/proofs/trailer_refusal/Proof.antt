@@ -1,3 +1,4 @@
+-- `reader::trailer_refusal` meets its contract: each return is the definition at the tests that led there. After number 9 the count byte is the one expected, so the length of the kind's shape is 4 × count + 4.
 use mathlib.Core.Path.{sym, ap, _∙_}
 use native.Mathlib.Omega.{arith}
 use borrow.Author.Tests.{lt-ltb, le-ltb, eq-eqb, ne-eqb}

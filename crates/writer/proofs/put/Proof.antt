@@ -1,3 +1,4 @@
+-- `writer::put` meets its contract: the two tests decide whether the frame fits, and put_frame writes it.
 use mathlib.Core.Path.{refl}
 use borrow.Author.Needs.{needs}
 use Rattle.writer.specs.Writing.Laws.{fits-room, fits-many, fits-short}

@@ -1,3 +1,4 @@
+-- `writer::put_frame` meets its contract. Invariant: the output holds the body of the first i identifiers, and is as it was past them.
 use Prim.Native.Nat.{_≤_, _-_}
 use mathlib.Core.Path.{_≡_, refl}
 use native.Mathlib.Omega.{arith}

@@ -1,3 +1,4 @@
+-- `writer::put_two` meets its contract: the second frame lies in the rest of the output, right behind the first.
 use mathlib.Core.Path.{refl, sym, _∙_}
 use borrow.Author.Needs.{needs}
 use Rattle.writer.specs.Writing.Laws.{fits-room, fits-many, fits-short}

@@ -1,3 +1,4 @@
+-- `writer::write` meets its contract. Where no number is given, the list is short enough and the output has the room.
 use mathlib.Core.Path.{refl, sym, ap, _∙_}
 use borrow.Author.Tests.{eq-eqb, ne-eqb}
 use borrow.Author.Needs.{needs}

@@ -1,3 +1,4 @@
+-- `writer::write_refusal` meets its contract: a law of the definition for each test that led to a return.
 use mathlib.Core.Path.{sym, _∙_}
 use native.Mathlib.Omega.{arith}
 use borrow.Author.Needs.{needs}

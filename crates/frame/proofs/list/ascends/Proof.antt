@@ -1,3 +1,4 @@
+-- `frame::list::ascends` meets its contract. Invariant: the list ascends exactly if its rest from i on does.
 use Prim.Native.Nat.{_≤_, _-_}
 use mathlib.Core.Path.{_≡_, refl, sym, _∙_}
 use native.Mathlib.Omega.{arith}

@@ -1,3 +1,4 @@
+-- `frame::list::list_refusal` meets its contract: each return is the definition at what the two tests ensured.
 use mathlib.Core.Path.{sym, _∙_}
 use borrow.Author.Tests.{not-true, not-false}
 use borrow.Author.Needs.{needs}

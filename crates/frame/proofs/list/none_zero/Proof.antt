@@ -1,3 +1,4 @@
+-- `frame::list::none_zero` meets its contract. Invariant: the list has no zero exactly if its rest from i on has none.
 use Prim.Native.Nat.{_≤_, _-_}
 use mathlib.Core.Path.{_≡_, refl, sym, _∙_}
 use native.Mathlib.Omega.{arith}

@@ -1,3 +1,4 @@
+-- `reader::bytes::identifier_at` meets its contract: the four bytes from a place on are those that the rest begins with.
 use mathlib.Core.Path.{_∙_}
 use borrow.Author.Needs.{needs}
 use Rattle.frame.specs.Reading.Laws.{identifier-there}

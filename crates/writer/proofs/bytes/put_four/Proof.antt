@@ -1,3 +1,4 @@
+-- `writer::bytes::put_four` meets its contract: four stores in a row are one replacement of four bytes.
 use native.Mathlib.Omega.{arith}
 use borrow.Author.Needs.{needs}
 use lib.ListN.{length-set}

@@ -1,3 +1,4 @@
+-- `writer::bytes::put_identifier` meets its contract: what put_four ensures of the number's four bytes.
 use borrow.Author.Needs.{needs}
 use Rattle.frame.specs.Encoding.{fourBytes}
 use Rattle.writer.proofs.bytes.put_identifier.Statement.{statement}
