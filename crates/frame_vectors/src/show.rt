@@ -2,13 +2,18 @@
 use reader::Reading;
 use writer::Written;
 
-pub fn bytes(s: &[u8]) {
-    let mut i: usize = 0;
-    while i < s.len() {
-        let b = s[i];
-        io::print_hex(1, wide(b), 2);
-        i += 1;
-    }
+pub fn text(s: &[u8]) {
+    io::write_all(1, s);
+    line_end();
+}
+
+fn line_end() {
+    io::write_all(1, b"\n");
+}
+
+fn labelled(label: &[u8], number: u64) {
+    io::write_all(1, label);
+    io::print_decimal(1, number);
 }
 
 fn wide(x: u8) -> u64 {
@@ -19,12 +24,23 @@ fn long(x: u32) -> u64 {
     x as u64
 }
 
-fn space() {
-    io::write_all(1, b" ");
+fn hex(s: &[u8]) {
+    let mut i: usize = 0;
+    while i < s.len() {
+        let b = s[i];
+        io::print_hex(1, wide(b), 2);
+        i += 1;
+    }
 }
 
-fn line_end() {
-    io::write_all(1, b"\n");
+fn bytes(s: &[u8]) {
+    io::write_all(1, b" [");
+    hex(s);
+    io::write_all(1, b"]");
+}
+
+fn space() {
+    io::write_all(1, b" ");
 }
 
 fn numbers(ids: [u32; 16], count: usize) {
@@ -44,21 +60,14 @@ pub fn reading(n: usize, burst: &[u8]) {
     let number = reader::check(n, burst);
     let body = reader::body(n, burst);
     io::print_decimal(1, wide(number));
-    io::write_all(1, b" [");
     bytes(body);
-    io::write_all(1, b"]");
     match reader::read(n, burst) {
         Reading::Message { kind, count, start } => {
-            io::write_all(1, b" kind ");
-            io::print_decimal(1, wide(kind));
-            io::write_all(1, b" at ");
-            io::print_decimal(1, start as u64);
+            labelled(b" kind ", wide(kind));
+            labelled(b" at ", start as u64);
             numbers(reader::identifiers(body), count);
         }
-        Reading::Refused(r) => {
-            io::write_all(1, b" refused ");
-            io::print_decimal(1, wide(r));
-        }
+        Reading::Refused(r) => labelled(b" refused ", wide(r)),
     }
     line_end();
 }
@@ -66,28 +75,18 @@ pub fn reading(n: usize, burst: &[u8]) {
 // The answer of a write, and the output after it.
 pub fn written(n: usize, kind: u8, ids: &[u32], output: &mut [u8]) {
     match writer::write(n, kind, ids, output) {
-        Written::Length(length) => {
-            io::write_all(1, b"length ");
-            io::print_decimal(1, length as u64);
-        }
-        Written::Refused(r) => {
-            io::write_all(1, b"refused ");
-            io::print_decimal(1, wide(r));
-        }
+        Written::Length(length) => labelled(b"length ", length as u64),
+        Written::Refused(r) => labelled(b"refused ", wide(r)),
     }
-    io::write_all(1, b" [");
     bytes(output);
-    io::write_all(1, b"]\n");
+    line_end();
 }
 
 // The lengths of two frames, and the output after them.
 pub fn two(kind: u8, next: u8, ids: &[u32], output: &mut [u8]) {
     let lengths = writer::put_two(kind, next, ids, output);
-    io::write_all(1, b"lengths ");
-    io::print_decimal(1, lengths.front as u64);
-    io::write_all(1, b" ");
-    io::print_decimal(1, lengths.next as u64);
-    io::write_all(1, b" [");
+    labelled(b"lengths ", lengths.front as u64);
+    labelled(b" ", lengths.next as u64);
     bytes(output);
-    io::write_all(1, b"]\n");
+    line_end();
 }
