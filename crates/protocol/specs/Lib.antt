@@ -1,0 +1,7 @@
+pub mod Links
+pub mod Record
+pub mod Sound
+pub mod Steps
+pub mod Numbering
+pub mod Net
+pub mod Table

@@ -1,0 +1,62 @@
+// What a base holds, and what a call answers. specs/ has document 01's rules for them.
+use limits::LIST_ROOM;
+use limits::MOST_BASES;
+use limits::MOST_LINKS;
+
+// What is held of one link.
+#[repr(C)]
+pub struct Link {
+    // The one Announce identifier accepted there, or zero.
+    pub announce: u32,
+    // The Verify identifiers accepted there, in order of acceptance, zeros behind.
+    pub verifies: [u32; LIST_ROOM],
+    // The list of the vector message held there, zeros behind.
+    pub list: [u32; MOST_BASES],
+    pub verify_count: u8,
+    // The kind of the vector message held there: 3, 4, or zero for none.
+    pub held: u8,
+}
+
+#[repr(C)]
+pub struct Base {
+    pub n: u8,
+    pub t: u8,
+    // Idle (0), running (1), prime (2) or secondary (3).
+    pub state: u8,
+    // Whether a Verify-Final was sent: 1, or 0.
+    pub sent: u8,
+    // Its own identifier.
+    pub own: u32,
+    // All zero until the base has stopped.
+    pub final_list: [u32; MOST_BASES],
+    pub links: [Link; MOST_LINKS],
+}
+
+// What a call answers: accepted or discarded with the length of each frame that it broadcast, zero for none, or the number by which it was
+// turned down.
+pub enum Outcome {
+    Accepted {
+        first: usize,
+        second: usize,
+        third: usize,
+    },
+    Discarded {
+        first: usize,
+        second: usize,
+        third: usize,
+    },
+    Refused(u8),
+}
+
+// The record after a call, beside its answer.
+pub struct Step {
+    pub outcome: Outcome,
+    pub base: Base,
+}
+
+// What the leader call answers.
+pub enum Leader {
+    Is(u32),
+    NotStopped,
+    Refused(u8),
+}
