@@ -5,7 +5,13 @@ use lists::same;
 use protocol::Link;
 ghost use mathlib.Core.Path.{_≡_};
 ghost use lib.ListN.{take};
-ghost use Rattle.protocol.specs.Links.{holdsVerify, used, full, holdsVector, holdsList};
+ghost use Rattle.protocol.specs.Links.{announces, holdsVerify, used, full, holdsVector, holdsList};
+
+pub fn has_announce(link: Link) -> bool
+    ensures { λ r. ⌜ r ≡ announces link ⌝ }
+{
+    link.announce != 0
+}
 
 pub fn holds_verify(link: Link, g: u32) -> bool
     ensures { λ r. ⌜ r ≡ holdsVerify link g ⌝ }

@@ -1,0 +1,14 @@
+-- What a loop that counts has after one turn more.
+use Prim.Native.Nat.{ℕ, _+_}
+use mathlib.Core.Path.{_≡_, _∙_}
+use mathlib.Core.Bool.{Bool}
+use native.Mathlib.Omega.{arith}
+use Rattle.counting.specs.Sums.{bit, sum}
+use Rattle.counting.specs.Sums.Laws.{sum-next}
+
+pub sum-turn : (f : ℕ → ℕ) (i total term : ℕ) → total ≡ sum i f → term ≡ f i → total + term ≡ sum (i + 1) f
+sum-turn f i total term p q = omega (arith, sum-next i f)
+
+-- the number of those of which a test holds
+pub count-turn : (p : ℕ → Bool) (i total term : ℕ) → total ≡ sum i (λ j. bit (p j)) → term ≡ bit (p i) → total + term ≡ sum (i + 1) (λ j. bit (p j))
+count-turn p i total term e f = sum-turn (λ j. bit (p j)) i total term e f
