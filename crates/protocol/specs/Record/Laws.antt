@@ -1,8 +1,9 @@
 -- Laws of what is counted from a record: its number of links, and the identifiers announced there.
-use Prim.Native.Nat.{ℕ, zero, suc, _-_, _≤_}
+use Prim.Native.Nat.{ℕ, zero, suc, _-_, _≤_, _<_}
 use mathlib.Core.Path.{_≡_, refl, ap, _∙_}
 use mathlib.Core.Bool.{true, false, not}
 use mathlib.Core.List.{List, [], _∷_}
+use native.Mathlib.Nat.{le-refl}
 use native.Mathlib.Omega.{arith}
 use borrow.Author.Tests.{ne-eqb}
 use lib.ListN.{length, List·getD-eq-default}
@@ -68,10 +69,10 @@ unfolding nonzero announces
 nonzero-announced k at = announced-ind (λ (j : ℕ) (l : List ℕ). nonzero l ≡ true) at refl (λ j e h. and-both e h) (λ j e h. h) k
 
 -- where nobody announces
-pub announced-none : (k : ℕ) (at : ℕ → Link) → ((i : ℕ) → announces (at i) ≡ false) → announced k at ≡ []
+pub announced-none : (k : ℕ) (at : ℕ → Link) → ((i : ℕ) → i < k → announces (at i) ≡ false) → announced k at ≡ []
 unfolding announced
 announced-none zero at none = refl
-announced-none (suc k) at none = choose-no _ _ (none k) ∙ announced-none k at none
+announced-none (suc k) at none = choose-no _ _ (none k (le-refl (suc k))) ∙ announced-none k at (λ i h. none i (omega arith))
 
 -- where the same identifiers stand at each place
 pub announced-same : (k : ℕ) (at new : ℕ → Link) → ((i : ℕ) → new i .announce ≡ at i .announce) → announced k new ≡ announced k at

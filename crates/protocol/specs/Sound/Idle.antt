@@ -20,7 +20,7 @@ use Rattle.protocol.specs.declared.Link.{Link}
 use Rattle.protocol.specs.declared.Base.{Base}
 use Rattle.protocol.specs.Links.{noLink, announces, verifiesOf, used}
 use Rattle.protocol.specs.Record.{linkAt, linkCount, certified}
-use Rattle.protocol.specs.Record.Laws.{link-same, base-same, link-past, announced-none}
+use Rattle.protocol.specs.Record.Laws.{link-same, base-same, link-room, announced-none}
 use Rattle.protocol.specs.Record.Memory.{SizedLink, Sized}
 use Rattle.protocol.specs.Sound.{heldSound, linkEmpty, linkSound, placeSound, linksEmpty, idle, stopped, finalSound, idleSound, sound, settingRefusal, recordRefusal, emptyLink, idleBase}
 use Rattle.protocol.specs.Sound.Laws.{EmptyParts, sound-parts, parts-sound, idle-unsent, idle-place, final-running, record-passed, place-used, place-unused, parts-link}
@@ -55,11 +55,9 @@ module _ (n t own : ℕ) where
   unfolding idleBase linkAt
   idle-link i h = getD-replicate mostLinks i emptyLink noLink h
 
-  idle-silent : (i : ℕ) → announces (linkAt (idleBase n t own) i) ≡ false
-  idle-silent i = elim (decLt i mostLinks) [
-    | yes h ↦ ap announces (idle-link i h) ∙ (unfold announces in refl)
-    | no h ↦ ap announces (link-past (idleBase n t own) i (unfold idleBase in omega (arith, h))) ∙ (unfold announces in refl)
-  ]
+  idle-silent : (i : ℕ) → i < mostLinks → announces (linkAt (idleBase n t own) i) ≡ false
+  unfolding announces
+  idle-silent i h = ap announces (idle-link i h)
 
   empty-sound : (i : ℕ) → placeSound n i emptyLink ≡ true
   empty-sound i = elim (decLt i (n - 1)) [ yes h ↦ place-used n i emptyLink h ∙ in-use | no h ↦ place-unused n i emptyLink (omega (arith, h)) ∙ empty ]
@@ -79,7 +77,7 @@ module _ (n t own : ℕ) where
 
   idle-certified : certified (idleBase n t own) ≡ own ∷ []
   unfolding certified idleBase
-  idle-certified = ap (λ (l : List ℕ). own ∷ l) (announced-none (linkCount (idleBase n t own)) (linkAt (idleBase n t own)) idle-silent)
+  idle-certified = ap (λ (l : List ℕ). own ∷ l) (announced-none (linkCount (idleBase n t own)) (linkAt (idleBase n t own)) (λ i h. idle-silent i (omega (arith, link-room (idleBase n t own)))))
 
   pub idle-sound : sound (idleBase n t own) ≡ true
   idle-sound = parts-sound (record {
