@@ -4,6 +4,7 @@ use mathlib.Core.Bool.{Bool, true, false}
 use Rattle.lists.specs.Choice.{and}
 pub mod Laws
 pub mod Loops
+pub mod Bounds
 
 unfoldable pub bit : Bool → ℕ
 bit true = 1

@@ -6,6 +6,9 @@ use lib.Dec.{eqb, ltb, leb}
 use lib.ListN.{length, getD, replicate}
 use Rattle.lists.specs.Choice.{choose, and, or}
 pub mod Laws
+pub mod Sets
+pub mod Zeros
+pub mod Sorted
 
 -- no element is zero
 unfoldable pub nonzero : List ℕ → Bool
