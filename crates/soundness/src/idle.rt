@@ -1,7 +1,10 @@
 // The record of a base that has not started.
 use crate::refusals::setting_refusal;
-use limits::{LIST_ROOM, MOST_BASES, MOST_LINKS};
-use protocol::{Base, Link};
+use limits::LIST_ROOM;
+use limits::MOST_BASES;
+use limits::MOST_LINKS;
+use protocol::Base;
+use protocol::Link;
 ghost use mathlib.Core.Path.{_≡_};
 ghost use Rattle.protocol.specs.Sound.{idleBase};
 ghost use Rattle.soundness.specs.Made.{madeOf};

@@ -1,7 +1,10 @@
 // Whether what is held of one link is sound, or nothing.
 use held::held_count;
 use limits::MOST_BASES;
-use lists::{ascends, differ, none_zero, zero_behind};
+use lists::ascends;
+use lists::differ;
+use lists::none_zero;
+use lists::zero_behind;
 use protocol::Link;
 ghost use mathlib.Core.Path.{_≡_};
 ghost use Rattle.protocol.specs.Sound.{listSound, verifiesSound, heldSound, linkSound, linkEmpty, placeSound};

@@ -1,5 +1,7 @@
 // Whether a record is sound.
-use crate::link::{link_empty, list_sound, place_sound};
+use crate::link::link_empty;
+use crate::link::list_sound;
+use crate::link::place_sound;
 use limits::MOST_LINKS;
 use lists::zero_behind;
 use protocol::Base;

@@ -1,48 +1,36 @@
 -- `soundness::link::held_sound` meets its contract, by the kind held.
+use mathlib.Core.Path.{_∙_}
+use borrow.Author.Tests.{ne-eqb}
+use borrow.Author.Needs.{needs}
 use Rattle.protocol.specs.Sound.{heldSound}
 use Rattle.lists.specs.Choice.{choose, and, or}
-use borrow.Author.Tests.{ne-eqb}
-use mathlib.Core.Path.{_∙_}
-use borrow.Author.Needs.{needs}
 use Rattle.soundness.proofs.link.held_sound.Statement.{statement}
 use Rattle.soundness.proofs.link.held_sound.Tie as tie
-use Rattle.soundness.proofs.link.held_sound.Reads as reads
-use Rattle.soundness.proofs.link.held_sound.Lts as lts
-use Rattle.lists.proofs.zero_behind.Reads as zero-behind-reads
-use Rattle.soundness.proofs.link.list_sound.Reads as list-sound-reads
 
--- src/link.rt:42:26
 slice-aggregate-zero-behind : tie.Need-slice-aggregate-zero-behind
 slice-aggregate-zero-behind c = search needs
 
--- src/link.rt:42:14
 zero-behind-requires : tie.Need-zero-behind-requires
 zero-behind-requires c κs = search needs
 
--- src/link.rt:43:14
 list-sound-requires : tie.Need-list-sound-requires
 list-sound-requires c κs = search needs
 
--- src/link.rt:44:14
 list-sound-requires-2 : tie.Need-list-sound-requires-2
 list-sound-requires-2 c κs = search needs
 
--- src/link.rt:36:1
 returns : tie.Need-returns
 unfolding heldSound choose
 returns c = c .zero-behind .ensures ∙ simp (c .before .before .match .keys1)
 
--- src/link.rt:36:1
 returns-2 : tie.Need-returns-2
 unfolding heldSound choose and or
 returns-2 c = c .list-sound .ensures ∙ simp (c .before .match .keys2)
 
--- src/link.rt:36:1
 returns-3 : tie.Need-returns-3
 unfolding heldSound choose and or
 returns-3 c = c .list-sound2 .ensures ∙ simp (c .before .match .keys3)
 
--- src/link.rt:36:1
 returns-4 : tie.Need-returns-4
 unfolding heldSound choose and or
 returns-4 c = let r = c .match .rest in simp (ne-eqb _ _ (r .1), ne-eqb _ _ (r .0 .1), ne-eqb _ _ (r .0 .0 .1))

@@ -1,44 +1,34 @@
 -- `soundness::link::link_empty` meets its contract: the tests stand in the order of the definition.
+use mathlib.Core.Path.{sym, _∙_}
+use borrow.Author.Tests.{not-true, not-false, eq-eqb, ne-eqb}
+use borrow.Author.Needs.{needs}
 use Rattle.protocol.specs.Sound.{linkEmpty}
 use Rattle.lists.specs.Choice.Laws.{and-fails, and-goes-on}
-use borrow.Author.Tests.{not-true, not-false, eq-eqb, ne-eqb}
-use mathlib.Core.Path.{sym, _∙_}
-use borrow.Author.Needs.{needs}
 use Rattle.soundness.proofs.link.link_empty.Statement.{statement}
 use Rattle.soundness.proofs.link.link_empty.Tie as tie
-use Rattle.soundness.proofs.link.link_empty.Reads as reads
-use Rattle.soundness.proofs.link.link_empty.Lts as lts
-use Rattle.lists.proofs.zero_behind.Reads as zero-behind-reads
 
--- src/link.rt:66:9
 returns : tie.Need-returns
 unfolding linkEmpty
 returns c = and-fails _ (ne-eqb _ _ (c .if1 .taken))
 
--- src/link.rt:69:9
 returns-2 : tie.Need-returns-2
 unfolding linkEmpty
 returns-2 c = and-goes-on (eq-eqb _ _ (c .before .if1 .left)) (and-fails _ (ne-eqb _ _ (c .if2 .taken)))
 
--- src/link.rt:71:9
 zero-behind-requires : tie.Need-zero-behind-requires
 zero-behind-requires c κs = search needs
 
--- src/link.rt:72:9
 returns-3 : tie.Need-returns-3
 unfolding linkEmpty
 returns-3 c = and-goes-on (eq-eqb _ _ (c .before .before .before .before .before .before .if1 .left)) (and-goes-on (eq-eqb _ _ (c .before .before .before .before .before .if2 .left)) (and-fails _ (sym (c .before .zero-behind .ensures) ∙ not-true _ (c .if3 .taken))))
 
--- src/link.rt:75:9
 returns-4 : tie.Need-returns-4
 unfolding linkEmpty
 returns-4 c = and-goes-on (eq-eqb _ _ (c .before .before .before .before .before .before .before .if1 .left)) (and-goes-on (eq-eqb _ _ (c .before .before .before .before .before .before .if2 .left)) (and-goes-on (sym (c .before .before .zero-behind .ensures) ∙ not-false _ (c .before .if3 .left)) (and-fails _ (ne-eqb _ _ (c .if4 .taken)))))
 
--- src/link.rt:77:5
 zero-behind-requires-2 : tie.Need-zero-behind-requires-2
 zero-behind-requires-2 c κs = search needs
 
--- src/link.rt:62:1
 returns-5 : tie.Need-returns-5
 unfolding linkEmpty
 returns-5 c = and-goes-on (eq-eqb _ _ (c .before .before .before .before .before .before .before .before .before .before .before .if1 .left)) (and-goes-on (eq-eqb _ _ (c .before .before .before .before .before .before .before .before .before .before .if2 .left)) (and-goes-on (sym (c .before .before .before .before .before .before .zero-behind .ensures) ∙ not-false _ (c .before .before .before .before .before .if3 .left)) (and-goes-on (eq-eqb _ _ (c .before .before .before .before .if4 .left)) (c .zero-behind2 .ensures))))

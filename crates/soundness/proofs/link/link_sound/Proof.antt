@@ -1,48 +1,36 @@
 -- `soundness::link::link_sound` meets its contract: the tests stand in the order of the definition.
+use Prim.Native.Nat.{_+_}
+use mathlib.Core.Path.{sym, _∙_}
+use native.Mathlib.Omega.{arith}
+use borrow.Author.Tests.{not-true, not-false, le-leb, lt-leb}
+use borrow.Author.Needs.{needs}
 use Rattle.protocol.specs.Sound.{linkSound}
 use Rattle.protocol.specs.Links.{used}
 use Rattle.lists.specs.Choice.Laws.{and-fails, and-goes-on}
-use borrow.Author.Tests.{not-true, not-false, le-leb, lt-leb}
-use native.Mathlib.Omega.{arith}
-use mathlib.Core.Path.{sym, _∙_}
-use Prim.Native.Nat.{_+_}
-use borrow.Author.Needs.{needs}
 use Rattle.soundness.proofs.link.link_sound.Statement.{statement}
 use Rattle.soundness.proofs.link.link_sound.Tie as tie
-use Rattle.soundness.proofs.link.link_sound.Reads as reads
-use Rattle.soundness.proofs.link.link_sound.Lts as lts
-use Rattle.held.proofs.held_count.Reads as held-count-reads
-use Rattle.soundness.proofs.link.held_sound.Reads as held-sound-reads
-use Rattle.soundness.proofs.link.verifies_sound.Reads as verifies-sound-reads
 
--- src/link.rt:52:16
 add-most : tie.Need-add-most
 add-most c = search needs
 
--- src/link.rt:53:15
 held-count-requires : tie.Need-held-count-requires
 held-count-requires c κs = search needs
 
--- src/link.rt:54:9
 returns : tie.Need-returns
 unfolding linkSound
 returns c = let a = c .before .before .args in and-fails _ (lt-leb (used (a .link)) (a .n + 1) (omega (arith, c .before .held-count .ensures)))
 
--- src/link.rt:56:9
 verifies-sound-requires : tie.Need-verifies-sound-requires
 verifies-sound-requires c κs = search needs
 
--- src/link.rt:57:9
 returns-2 : tie.Need-returns-2
 unfolding linkSound
 returns-2 c = let a = c .before .before .before .before .args in
     and-goes-on (le-leb (used (a .link)) (a .n + 1) (omega (arith, c .before .before .before .held-count .ensures))) (and-fails _ (sym (c .before .verifies-sound .ensures) ∙ not-true _ (c .if2 .taken)))
 
--- src/link.rt:59:5
 held-sound-requires : tie.Need-held-sound-requires
 held-sound-requires c κs = search needs
 
--- src/link.rt:49:1
 returns-3 : tie.Need-returns-3
 unfolding linkSound
 returns-3 c = let a = c .before .before .before .before .before .args in

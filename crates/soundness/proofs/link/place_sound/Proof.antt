@@ -1,36 +1,27 @@
 -- `soundness::link::place_sound` meets its contract, by whether the base has that link.
+use Prim.Native.Nat.{_-_}
+use mathlib.Core.Logic.{⊎-elim}
+use native.Mathlib.Omega.{arith}
+use borrow.Author.Tests.{lt-ltb, le-ltb}
+use borrow.Author.Needs.{needs}
 use Rattle.protocol.specs.Sound.{placeSound}
 use Rattle.lists.specs.Choice.Laws.{chosen-yes, chosen-no}
-use borrow.Author.Tests.{lt-ltb, le-ltb}
-use native.Mathlib.Omega.{arith}
-use mathlib.Core.Logic.{⊎-elim}
-use Prim.Native.Nat.{_-_}
-use borrow.Author.Needs.{needs}
 use Rattle.soundness.proofs.link.place_sound.Statement.{statement}
 use Rattle.soundness.proofs.link.place_sound.Tie as tie
-use Rattle.soundness.proofs.link.place_sound.Reads as reads
-use Rattle.soundness.proofs.link.place_sound.Lts as lts
-use Rattle.soundness.proofs.link.link_empty.Reads as link-empty-reads
-use Rattle.soundness.proofs.link.link_sound.Reads as link-sound-reads
 
--- src/link.rt:86:16
 sub-if2 : tie.Need-sub-if2
 sub-if2 c = search needs
 
--- src/link.rt:87:13
 link-sound-requires : tie.Need-link-sound-requires
 link-sound-requires c κs = search needs
 
--- src/link.rt:87:13
 returns : tie.Need-returns
 unfolding placeSound
 returns c = chosen-yes _ (lt-ltb _ _ (c .before .if2 .taken)) (c .link-sound .ensures)
 
--- src/link.rt:90:5
 link-empty-requires : tie.Need-link-empty-requires
 link-empty-requires c κs = search needs
 
--- src/link.rt:81:1
 returns-2 : tie.Need-returns-2
 unfolding placeSound
 returns-2 c = let a = c .before .before .args in

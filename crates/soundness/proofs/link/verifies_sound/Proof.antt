@@ -1,45 +1,33 @@
 -- `soundness::link::verifies_sound` meets its contract: the tests stand in the order of the definition.
+use mathlib.Core.Path.{sym, _∙_}
+use borrow.Author.Tests.{not-true, not-false}
+use borrow.Author.Needs.{needs}
 use Rattle.protocol.specs.Sound.{verifiesSound}
 use Rattle.protocol.specs.Links.{verifiesOf}
 use Rattle.lists.specs.Choice.Laws.{and-fails, and-goes-on}
-use borrow.Author.Tests.{not-true, not-false}
-use mathlib.Core.Path.{sym, _∙_}
-use borrow.Author.Needs.{needs}
 use Rattle.soundness.proofs.link.verifies_sound.Statement.{statement}
 use Rattle.soundness.proofs.link.verifies_sound.Tie as tie
-use Rattle.soundness.proofs.link.verifies_sound.Reads as reads
-use Rattle.soundness.proofs.link.verifies_sound.Lts as lts
-use Rattle.lists.proofs.differ.Reads as differ-reads
-use Rattle.lists.proofs.none_zero.Reads as none-zero-reads
-use Rattle.lists.proofs.zero_behind.Reads as zero-behind-reads
 
--- src/link.rt:26:17
 cast-count : tie.Need-cast-count
 cast-count c = search needs
 
--- src/link.rt:27:9
 none-zero-requires : tie.Need-none-zero-requires
 none-zero-requires c κs = search needs
 
--- src/link.rt:28:9
 returns : tie.Need-returns
 unfolding verifiesSound verifiesOf
 returns c = and-fails _ (sym (c .before .none-zero .ensures) ∙ not-true _ (c .if1 .taken))
 
--- src/link.rt:30:9
 differ-requires : tie.Need-differ-requires
 differ-requires c κs = search needs
 
--- src/link.rt:31:9
 returns-2 : tie.Need-returns-2
 unfolding verifiesSound verifiesOf
 returns-2 c = and-goes-on (sym (c .before .before .before .before .before .before .none-zero .ensures) ∙ not-false _ (c .before .before .before .before .before .if1 .left)) (and-fails _ (sym (c .before .differ .ensures) ∙ not-true _ (c .if2 .taken)))
 
--- src/link.rt:33:5
 zero-behind-requires : tie.Need-zero-behind-requires
 zero-behind-requires c κs = search needs
 
--- src/link.rt:23:1
 returns-3 : tie.Need-returns-3
 unfolding verifiesSound verifiesOf
 returns-3 c = and-goes-on (sym (c .before .before .before .before .before .before .before .before .before .before .none-zero .ensures) ∙ not-false _ (c .before .before .before .before .before .before .before .before .before .if1 .left)) (and-goes-on (sym (c .before .before .before .before .before .differ .ensures) ∙ not-false _ (c .before .before .before .before .if2 .left)) (c .zero-behind .ensures))

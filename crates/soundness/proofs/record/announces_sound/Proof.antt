@@ -1,63 +1,79 @@
+-- `soundness::record::announces_sound` meets its contract. The own identifier is looked for first; then the invariant says that the announced ones differ exactly if those at the places below i do.
+use Prim.Native.Nat.{ℕ, _≤_, _-_, _+_, min}
+use mathlib.Core.Bool.{not}
+use mathlib.Core.Path.{_≡_, sym, ap, _∙_}
+use native.Mathlib.Omega.{arith}
+use borrow.Author.Needs.{needs}
+use Rattle.tally.proofs.Announced.{distinct-broken, distinct-goes-on}
+use Rattle.protocol.specs.Sound.{announcesSound}
+use Rattle.protocol.specs.Record.{linkAt, linkCount, announced, certified}
+use Rattle.protocol.specs.declared.Base.{Base}
+use Rattle.lists.specs.Lists.{member, distinct}
+use Rattle.lists.specs.Choice.Laws.{and-fails, and-goes-on}
+use Rattle.limits.specs.Limits.{mostLinks}
 use Rattle.soundness.proofs.record.announces_sound.Statement.{statement}
 use Rattle.soundness.proofs.record.announces_sound.Tie as tie
-use Rattle.soundness.proofs.record.announces_sound.Reads as reads
-use Rattle.soundness.proofs.record.announces_sound.Lts as lts
-use Rattle.tally.proofs.certified.announced_below.Reads as announced-below-reads
-use Rattle.tally.proofs.link_count.Reads as link-count-reads
 
 abbrev Inv-loop : tie.InvT-loop
-Inv-loop base k own i₀ i = ?
+Inv-loop base k own i₀ i = (i ≤ k) × (distinct (announced (linkCount base) (linkAt base)) ≡ distinct (announced i (linkAt base)))
 
 abbrev μ-loop : tie.MeasureT-loop
-μ-loop base k own i₀ i = ?
+μ-loop base k own i₀ i = i
 
--- src/record.rt:45:9
+-- a membership below k, where k is the number of links
+below : (b : Base) (k g : ℕ) → k ≡ min (b .n - 1) mostLinks → member g (announced (min k mostLinks) (linkAt b)) ≡ member g (announced (linkCount b) (linkAt b))
+below b k g e = ap (λ (j : ℕ). member g (announced j (linkAt b))) (unfold linkCount in omega (arith, e))
+
 link-count-requires : tie.Need-link-count-requires Inv-loop μ-loop
-link-count-requires c κs = ?
+link-count-requires c κs = search needs
 
--- src/record.rt:47:8
 announced-below-requires : tie.Need-announced-below-requires Inv-loop μ-loop
-announced-below-requires c κs = ?
+announced-below-requires c κs = search needs
 
--- src/record.rt:48:9
 returns : tie.Need-returns Inv-loop μ-loop
-returns c = ?
+unfolding announcesSound certified distinct
+returns c = let b = c .before .before .before .args .t1 in
+    and-fails _ (ap not (sym (below b _ (b .own) (c .before .before .link-count .ensures)) ∙ sym (c .before .announced-below .ensures) ∙ c .if1 .taken))
 
--- src/record.rt:51:5
 loop-holds : tie.Need-loop-holds Inv-loop μ-loop
-loop-holds c = ?
+unfolding linkCount
+loop-holds c = let b = c .before .before .before .args .t1 in (omega arith, ap (λ (j : ℕ). distinct (announced j (linkAt b))) (sym (c .before .before .link-count .ensures)))
 
--- src/record.rt:52:17
 sub-j : tie.Need-sub-j Inv-loop μ-loop
-sub-j c = ?
+sub-j c = omega arith
 
--- src/record.rt:53:20
 mul-link : tie.Need-mul-link Inv-loop μ-loop
-mul-link c = ?
+mul-link c = omega arith
 
--- src/record.rt:53:20
 element-copy-out-link : tie.Need-element-copy-out-link Inv-loop μ-loop
-element-copy-out-link c = ?
+element-copy-out-link c = omega arith
 
--- src/record.rt:55:12
 announced-below-requires-2 : tie.Need-announced-below-requires-2 Inv-loop μ-loop
-announced-below-requires-2 c κs = ?
+announced-below-requires-2 c κs = search needs
 
--- src/record.rt:56:13
 returns-2 : tie.Need-returns-2 Inv-loop μ-loop
-returns-2 c = ?
+unfolding announcesSound certified distinct linkAt
+returns-2 c = let b = c .before .before .before .before .before .before .before .before .args .t1 in let l = c .before .before .before .before .loop in let e : l .i ≡ l .i - 1 + 1 = omega arith in
+    let own = ap not (sym (below b _ (b .own) (c .before .before .before .before .before .before .before .link-count .ensures)) ∙ sym (c .before .before .before .before .before .before .announced-below .ensures) ∙ c .before .before .before .before .before .if1 .left) in
+    let j : min (l .i - 1) mostLinks ≡ l .i - 1 = omega (arith, c .before .before .before .before .before .before .before .link-count .ensures) in
+    let here = ap (λ (k : ℕ). member (linkAt b (l .i - 1) .announce) (announced k (linkAt b))) (sym j) ∙ sym (c .before .announced-below2 .ensures) ∙ c .if2 .taken in
+    and-goes-on own (sym (l .inv .1 ∙ ap (λ (k : ℕ). distinct (announced k (linkAt b))) e ∙ distinct-broken (linkAt b) (l .i - 1) here))
 
--- src/record.rt:51:5
 loop-less : tie.Need-loop-less Inv-loop μ-loop
-loop-less c = ?
+loop-less c = omega arith
 
--- src/record.rt:51:5
 loop-again : tie.Need-loop-again Inv-loop μ-loop
-loop-again c = ?
+unfolding linkAt
+loop-again c = let b = c .before .before .before .before .before .before .before .before .args .t1 in let l = c .before .before .before .before .loop in let e : l .i ≡ l .i - 1 + 1 = omega arith in
+    let j : min (l .i - 1) mostLinks ≡ l .i - 1 = omega (arith, c .before .before .before .before .before .before .before .link-count .ensures) in
+    let here = ap (λ (k : ℕ). member (linkAt b (l .i - 1) .announce) (announced k (linkAt b))) (sym j) ∙ sym (c .before .announced-below2 .ensures) ∙ c .if2 .left in
+    (omega arith, l .inv .1 ∙ ap (λ (k : ℕ). distinct (announced k (linkAt b))) e ∙ distinct-goes-on (linkAt b) (l .i - 1) here)
 
--- src/record.rt:42:1
 returns-3 : tie.Need-returns-3 Inv-loop μ-loop
-returns-3 c = ?
+unfolding announcesSound certified distinct announced
+returns-3 c = let b = c .before .before .before .before .before .args .t1 in let l = c .before .loop in let e : l .i ≡ 0 = omega arith in
+    let own = ap not (sym (below b _ (b .own) (c .before .before .before .before .link-count .ensures)) ∙ sym (c .before .before .before .announced-below .ensures) ∙ c .before .before .if1 .left) in
+    and-goes-on own (sym (l .inv .1 ∙ ap (λ (k : ℕ). distinct (announced k (linkAt b))) e))
 
 pub announces-sound-spec : {M : Type 1} → statement M
 announces-sound-spec =

@@ -1,33 +1,24 @@
 -- `soundness::record::final_sound` meets its contract, by whether the base has stopped.
-use Rattle.protocol.specs.Sound.{finalSound, stopped}
-use Rattle.lists.specs.Choice.Laws.{chosen-yes, chosen-no}
 use borrow.Author.Tests.{le-leb, lt-leb}
 use borrow.Author.Needs.{needs}
+use Rattle.protocol.specs.Sound.{finalSound, stopped}
+use Rattle.lists.specs.Choice.Laws.{chosen-yes, chosen-no}
 use Rattle.soundness.proofs.record.final_sound.Statement.{statement}
 use Rattle.soundness.proofs.record.final_sound.Tie as tie
-use Rattle.soundness.proofs.record.final_sound.Reads as reads
-use Rattle.soundness.proofs.record.final_sound.Lts as lts
-use Rattle.lists.proofs.zero_behind.Reads as zero-behind-reads
-use Rattle.soundness.proofs.link.list_sound.Reads as list-sound-reads
 
--- src/record.rt:68:9
 list-sound-requires : tie.Need-list-sound-requires
 list-sound-requires c κs = search needs
 
--- src/record.rt:68:9
 returns : tie.Need-returns
 unfolding finalSound stopped
 returns c = chosen-yes _ (le-leb _ _ (c .before .if1 .taken)) (c .list-sound .ensures)
 
--- src/record.rt:70:17
 slice-aggregate-zero-behind : tie.Need-slice-aggregate-zero-behind
 slice-aggregate-zero-behind c = search needs
 
--- src/record.rt:70:5
 zero-behind-requires : tie.Need-zero-behind-requires
 zero-behind-requires c κs = search needs
 
--- src/record.rt:63:1
 returns-2 : tie.Need-returns-2
 unfolding finalSound stopped
 returns-2 c = chosen-no _ (lt-leb _ _ (c .before .before .if1 .left)) (c .zero-behind .ensures)

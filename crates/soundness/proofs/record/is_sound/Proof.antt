@@ -1,52 +1,47 @@
+-- `soundness::record::is_sound` meets its contract: the rules stand in the order of the definition.
+use mathlib.Core.Path.{sym, _∙_}
+use borrow.Author.Tests.{not-true, not-false, le-leb, lt-leb}
 use borrow.Author.Needs.{needs}
+use Rattle.protocol.specs.Sound.{sound}
+use Rattle.lists.specs.Choice.Laws.{and-fails, and-goes-on}
 use Rattle.soundness.proofs.record.is_sound.Statement.{statement}
 use Rattle.soundness.proofs.record.is_sound.Tie as tie
-use Rattle.soundness.proofs.record.is_sound.Reads as reads
-use Rattle.soundness.proofs.record.is_sound.Lts as lts
-use Rattle.soundness.proofs.record.announces_sound.Reads as announces-sound-reads
-use Rattle.soundness.proofs.record.final_sound.Reads as final-sound-reads
-use Rattle.soundness.proofs.record.idle_sound.Reads as idle-sound-reads
-use Rattle.soundness.proofs.record.links_sound.Reads as links-sound-reads
 
--- src/record.rt:89:9
 returns : tie.Need-returns
-returns c = ?
+unfolding sound
+returns c = and-fails _ (lt-leb _ _ (c .if1 .taken))
 
--- src/record.rt:92:9
 returns-2 : tie.Need-returns-2
-returns-2 c = ?
+unfolding sound
+returns-2 c = and-goes-on (le-leb _ _ (c .before .before .if1 .left)) (and-fails _ (lt-leb _ _ (c .if2 .taken)))
 
--- src/record.rt:94:9
 links-sound-requires : tie.Need-links-sound-requires
 links-sound-requires c κs = search needs
 
--- src/record.rt:95:9
 returns-3 : tie.Need-returns-3
-returns-3 c = ?
+unfolding sound
+returns-3 c = and-goes-on (le-leb _ _ (c .before .before .before .before .if1 .left)) (and-goes-on (le-leb _ _ (c .before .before .if2 .left)) (and-fails _ (sym (c .before .links-sound .ensures) ∙ not-true _ (c .if3 .taken))))
 
--- src/record.rt:97:9
 announces-sound-requires : tie.Need-announces-sound-requires
 announces-sound-requires c κs = search needs
 
--- src/record.rt:98:9
 returns-4 : tie.Need-returns-4
-returns-4 c = ?
+unfolding sound
+returns-4 c = and-goes-on (le-leb _ _ (c .before .before .before .before .before .before .if1 .left)) (and-goes-on (le-leb _ _ (c .before .before .before .before .if2 .left)) (and-goes-on (sym (c .before .before .before .links-sound .ensures) ∙ not-false _ (c .before .before .if3 .left)) (and-fails _ (sym (c .before .announces-sound .ensures) ∙ not-true _ (c .if4 .taken)))))
 
--- src/record.rt:100:9
 final-sound-requires : tie.Need-final-sound-requires
 final-sound-requires c κs = search needs
 
--- src/record.rt:101:9
 returns-5 : tie.Need-returns-5
-returns-5 c = ?
+unfolding sound
+returns-5 c = and-goes-on (le-leb _ _ (c .before .before .before .before .before .before .before .before .if1 .left)) (and-goes-on (le-leb _ _ (c .before .before .before .before .before .before .if2 .left)) (and-goes-on (sym (c .before .before .before .before .before .links-sound .ensures) ∙ not-false _ (c .before .before .before .before .if3 .left)) (and-goes-on (sym (c .before .before .before .announces-sound .ensures) ∙ not-false _ (c .before .before .if4 .left)) (and-fails _ (sym (c .before .final-sound .ensures) ∙ not-true _ (c .if5 .taken))))))
 
--- src/record.rt:103:5
 idle-sound-requires : tie.Need-idle-sound-requires
 idle-sound-requires c κs = search needs
 
--- src/record.rt:85:1
 returns-6 : tie.Need-returns-6
-returns-6 c = ?
+unfolding sound
+returns-6 c = and-goes-on (le-leb _ _ (c .before .before .before .before .before .before .before .before .before .if1 .left)) (and-goes-on (le-leb _ _ (c .before .before .before .before .before .before .before .if2 .left)) (and-goes-on (sym (c .before .before .before .before .before .before .links-sound .ensures) ∙ not-false _ (c .before .before .before .before .before .if3 .left)) (and-goes-on (sym (c .before .before .before .before .announces-sound .ensures) ∙ not-false _ (c .before .before .before .if4 .left)) (and-goes-on (sym (c .before .before .final-sound .ensures) ∙ not-false _ (c .before .if5 .left)) (c .idle-sound .ensures)))))
 
 pub is-sound-spec : {M : Type 1} → statement M
 is-sound-spec =

@@ -1,41 +1,32 @@
 -- `soundness::refusals::setting_refusal` meets its contract: each return is the definition at the tests that led there.
+use mathlib.Core.Path.{refl, sym, _∙_}
+use native.Mathlib.Omega.{arith}
+use borrow.Author.Tests.{lt-ltb, le-ltb, eq-eqb, ne-eqb}
+use borrow.Author.Needs.{needs}
 use Rattle.protocol.specs.Sound.{settingRefusal}
 use Rattle.lists.specs.Choice.Laws.{chosen-yes, chosen-no, first-none, first-given}
 use Rattle.limits.specs.Refusals.Laws.{net-passed}
-use borrow.Author.Tests.{lt-ltb, le-ltb, eq-eqb, ne-eqb}
-use native.Mathlib.Omega.{arith}
-use mathlib.Core.Path.{refl, sym, _∙_}
-use borrow.Author.Needs.{needs}
 use Rattle.soundness.proofs.refusals.setting_refusal.Statement.{statement}
 use Rattle.soundness.proofs.refusals.setting_refusal.Tie as tie
-use Rattle.soundness.proofs.refusals.setting_refusal.Reads as reads
-use Rattle.soundness.proofs.refusals.setting_refusal.Lts as lts
-use Rattle.limits.proofs.net_refusal.Reads as net-refusal-reads
 
--- src/refusals.rt:12:9
 net-refusal-requires : tie.Need-net-refusal-requires
 net-refusal-requires c κs = search needs
 
--- src/refusals.rt:14:9
 returns : tie.Need-returns
 unfolding settingRefusal
 returns c = let e = c .before .net-refusal .ensures in e ∙ sym (first-given _ (λ z. c .if1 .taken (e ∙ z)))
 
--- src/refusals.rt:16:9
 sub-if2 : tie.Need-sub-if2
 sub-if2 c = omega (arith, net-passed (c .before .before .args .n) (sym (c .before .net-refusal .ensures) ∙ c .if1 .left) .least)
 
--- src/refusals.rt:17:9
 returns-2 : tie.Need-returns-2
 unfolding settingRefusal
 returns-2 c = chosen-yes _ (lt-ltb _ _ (c .if2 .taken)) refl ∙ sym (first-none _ (sym (c .before .before .net-refusal .ensures) ∙ c .before .if1 .left))
 
--- src/refusals.rt:20:9
 returns-3 : tie.Need-returns-3
 unfolding settingRefusal
 returns-3 c = chosen-no _ (le-ltb _ _ (c .before .if2 .left)) (chosen-yes _ (eq-eqb _ _ (c .if3 .taken)) refl) ∙ sym (first-none _ (sym (c .before .before .before .net-refusal .ensures) ∙ c .before .before .if1 .left))
 
--- src/refusals.rt:9:1
 returns-4 : tie.Need-returns-4
 unfolding settingRefusal
 returns-4 c = chosen-no _ (le-ltb _ _ (c .before .if2 .left)) (chosen-no _ (ne-eqb _ _ (c .if3 .left)) refl) ∙ sym (first-none _ (sym (c .before .before .before .net-refusal .ensures) ∙ c .before .before .if1 .left))
