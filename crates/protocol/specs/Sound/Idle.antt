@@ -20,7 +20,8 @@ use Rattle.protocol.specs.declared.Link.{Link}
 use Rattle.protocol.specs.declared.Base.{Base}
 use Rattle.protocol.specs.Links.{noLink, announces, verifiesOf, used}
 use Rattle.protocol.specs.Record.{linkAt, linkCount, certified}
-use Rattle.protocol.specs.Record.Laws.{link-same, base-same, link-room, announced-none}
+use Rattle.protocol.specs.Record.Laws.{link-same, base-same, link-room}
+use Rattle.protocol.specs.Record.Announced.{announced-none}
 use Rattle.protocol.specs.Record.Memory.{SizedLink, Sized}
 use Rattle.protocol.specs.Sound.{heldSound, linkEmpty, linkSound, placeSound, linksEmpty, idle, stopped, finalSound, idleSound, sound, settingRefusal, recordRefusal, emptyLink, idleBase}
 use Rattle.protocol.specs.Sound.Laws.{EmptyParts, sound-parts, parts-sound, idle-unsent, idle-place, final-running, record-passed, place-used, place-unused, parts-link}

@@ -60,11 +60,11 @@ secondary-ends : {b : Base} {i : ℕ} {m : Message} {c : Base} {said : List Mess
 unfolding secondaryCheck
 secondary-ends {b} {i} {m} {c} H T = choose-ind (Ends b i m) (secondaryHolds c (idsOf m)) (λ e. stopping T (secondary H e)) (λ e. runningOn T)
 
-correct-list : (v : List ℕ) → HoldsList (correctFinal v)
+pub correct-list : (v : List ℕ) → HoldsList (correctFinal v)
 unfolding kindOf expected holdsOne or choose
 correct-list v n = refl
 
-verify-list : (v : List ℕ) → HoldsList (verifyFinal v)
+pub verify-list : (v : List ℕ) → HoldsList (verifyFinal v)
 unfolding kindOf expected holdsOne or choose
 verify-list v n = refl
 
