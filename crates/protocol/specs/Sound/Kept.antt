@@ -19,7 +19,7 @@ use Rattle.protocol.specs.Record.Memory.{Sized}
 use Rattle.protocol.specs.Sound.{stopped, finalSound, recordRefusal}
 use Rattle.protocol.specs.Sound.Laws.{ListParts, parts-list}
 use Rattle.protocol.specs.Steps.{Done, refuses, discards, accepts, withState, withFinal, stops, onMessage, begins, startStep, start, arrivalStep, arrival}
-use Rattle.protocol.specs.Steps.Cases.{Decides, prime, secondary, Ends, discarding, runningOn, stopping, message-ends, begun, afterStart, Heard, start-step-cases, start-cases, arrival-step-cases, arrival-cases}
+use Rattle.protocol.specs.Steps.Cases.{Decides, prime, secondary, Ends, discarding, runningOn, stopping, message-ends, begun, afterStart, Heard, arrival-heard, start-step-cases, start-cases, arrival-step-cases, arrival-cases}
 use Rattle.protocol.specs.Steps.Decided.{Roster, decides-roster, roster-padded}
 use Rattle.protocol.specs.Steps.Laws.{SameSetting, takes-rest}
 use Rattle.protocol.specs.Steps.Memory.{takes-sized, stops-sized, begun-sized}
@@ -55,7 +55,7 @@ unfolding stops accepts withState withFinal
 stops-setting b c state v said same = record { n = same .n; t = same .t; own = same .own }
 
 -- ---- steps
-same-setting : (b : Base) → SameSetting b b
+pub same-setting : (b : Base) → SameSetting b b
 same-setting b = record { n = refl; t = refl; own = refl }
 
 module _ {b : Base} (R : Runs b) (S : Sized b) (i : ℕ) (below : i < b .n - 1) (m : Message) (w : Valid (b .n) m) where
@@ -114,4 +114,4 @@ pub start-kept : (b : Base) (room : ℕ) → Sized b → callRefusal (start b ro
 start-kept b room S = start-cases (λ (d : Done). callRefusal (d .answer) ≡ 0 → Kept b d) b room (refuses-not b) (λ e _. start-step-kept b S e)
 
 pub arrival-kept : (b : Base) (link : ℕ) (burst : List ℕ) (room : ℕ) → Sized b → Below 256 burst → callRefusal (arrival b link burst room .answer) ≡ 0 → Kept b (arrival b link burst room)
-arrival-kept b link burst room S bytes = arrival-cases (λ (d : Done). callRefusal (d .answer) ≡ 0 → Kept b d) b link burst room bytes (refuses-not b) (λ H _. arrival-step-kept b _ _ S H)
+arrival-kept b link burst room S bytes = arrival-cases (λ (d : Done). callRefusal (d .answer) ≡ 0 → Kept b d) b link burst room (refuses-not b) (λ e _. arrival-step-kept b _ _ S (arrival-heard b link burst room bytes e))

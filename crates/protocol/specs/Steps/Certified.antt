@@ -31,18 +31,18 @@ pub data Adds (b c : Base) : Message → Type 0 where
   addsNone : {m : Message} → announcedTo c ≡ announcedTo b → Adds b c m
 
 -- where the link that the message came on announces what it did before
-announced-kept : {b : Base} {i : ℕ} {m : Message} {c : Base} {said : List Message} (T : Takes b i m c said) → i < length (b .links) → changed T .announce ≡ linkAt b i .announce → announcedTo c ≡ announcedTo b
+pub announced-kept : {b : Base} {i : ℕ} {m : Message} {c : Base} {said : List Message} (T : Takes b i m c said) → i < length (b .links) → changed T .announce ≡ linkAt b i .announce → announcedTo c ≡ announcedTo b
 unfolding linkCount
 announced-kept {b} {c = c} T h e =
     ap (λ (n : ℕ). announced (min (n - 1) mostLinks) (linkAt c)) (takes-rest T .setting .n)
     ∙ announced-same (linkCount b) (linkAt b) (linkAt c) (takes-each (λ (j : ℕ) (l : Link). l .announce ≡ linkAt b j .announce) (linkCount b) T h e (λ j _. refl))
 
 -- where it announces one that it did not
-announced-added : (b : Base) (i g : ℕ) → i < linkCount b → i < length (b .links) → 1 ≤ g → announces (linkAt b i) ≡ false → Inserted g (announcedTo b) (announcedTo (withLink b i (withAnnounce (linkAt b i) g)))
+pub announced-added : (b : Base) (i g : ℕ) → i < linkCount b → i < length (b .links) → 1 ≤ g → announces (linkAt b i) ≡ false → Inserted g (announcedTo b) (announcedTo (withLink b i (withAnnounce (linkAt b i) g)))
 unfolding withAnnounce withLink linkCount
 announced-added b i g below h some silent = announced-more (linkCount b) (linkAt b) (linkAt (withLink b i (withAnnounce (linkAt b i) g))) i g below silent some (ap (λ (l : Link). l .announce) (stored-same b i _ h)) (stored-other b i _)
 
-above-zero : (g : ℕ) → nonzero (g ∷ []) ≡ true → 1 ≤ g
+pub above-zero : (g : ℕ) → nonzero (g ∷ []) ≡ true → 1 ≤ g
 unfolding nonzero
 above-zero g e = go (eqb-false g 0 (not-true (eqb g 0) (and-true _ _ e .0)))
   where
