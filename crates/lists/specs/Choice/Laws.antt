@@ -39,6 +39,15 @@ unfolding and
 and-true true b e = (refl, e)
 and-true false b e = absurd (let z : _≡_ {A = ℕ} 0 1 = cc in omega arith)
 
+-- a chain of tests, each decided before the next is looked at
+pub and-fails : {a : Bool} (b : Bool) → a ≡ false → false ≡ and a b
+unfolding and
+and-fails b e = rw e
+
+pub and-goes-on : {a x b : Bool} → a ≡ true → x ≡ b → x ≡ and a b
+unfolding and
+and-goes-on e p = rw e p
+
 pub and-both : {a b : Bool} → a ≡ true → b ≡ true → and a b ≡ true
 unfolding and
 and-both p q = rw (p, q)
