@@ -8,7 +8,7 @@ use native.Mathlib.Omega.{arith}
 use borrow.Author.Tests.{eqb-true, eq-eqb, not-true}
 use lib.Dec.{eqb}
 use lib.ListN.{length}
-use Rattle.lists.specs.Choice.{and, or}
+use Rattle.lists.specs.Choice.{or}
 use Rattle.lists.specs.Choice.Laws.{clash, and-true, and-both, or-true, or-false, or-neither}
 use Rattle.lists.specs.Lists.{nonzero, member, distinct, Below}
 
@@ -79,16 +79,6 @@ nonzero-snoc [] y e f = f
 nonzero-snoc (z ∷ l) y e f = let p = and-true (not (eqb z 0)) (nonzero l) e in and-both (p .0) (nonzero-snoc l y (p .1) f)
 
 -- ---- what holds of each member
--- no element is zero: zero is no member
-pub nonzero-member : (l : List ℕ) → nonzero l ≡ not (member 0 l)
-unfolding nonzero member and or
-nonzero-member [] = refl
-nonzero-member (x ∷ l) = go (eqb x 0) (nonzero-member l)
-  where
-    go : (t : Bool) → nonzero l ≡ not (member 0 l) → and (not t) (nonzero l) ≡ not (or t (member 0 l))
-    go true e = refl
-    go false e = e
-
 -- each element is below a bound: each member is
 pub below-member : (m x : ℕ) (l : List ℕ) → Below m l → member x l ≡ true → x < m
 below-member m x [] h e = clash e (unfold member in refl)
