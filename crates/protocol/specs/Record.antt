@@ -12,6 +12,7 @@ use Rattle.protocol.specs.declared.Base.{Base}
 use Rattle.protocol.specs.Links.{noLink, announces, holdsVerify, holdsCorrect, holdsList}
 pub mod Memory
 pub mod Laws
+pub mod Announced
 
 unfoldable pub linkAt : Base → ℕ → Link
 linkAt b i = getD (b .links) i noLink

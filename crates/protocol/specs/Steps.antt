@@ -26,6 +26,14 @@ pub mod Sizes
 pub mod Checks
 pub mod First
 pub mod Output
+pub mod Decided
+pub mod Memory
+pub mod Certified
+pub mod Answers
+pub mod Broadcasts
+pub mod Calls
+pub mod Life
+pub mod Leading
 
 -- "Its answer is accepted or discarded", or the call is turned down by a number
 pub data Answer : Type 0 where

@@ -29,6 +29,10 @@ unfolding choose
 choose-ind P true f g = f refl
 choose-ind P false f g = g refl
 
+-- ---- a test has one value
+pub clash : {A : Type 0} {t : Bool} → t ≡ true → t ≡ false → A
+clash p q = absurd (let z : _≡_ {A = ℕ} 0 1 = cc in omega arith)
+
 -- ---- and, or
 pub and-true : (a b : Bool) → and a b ≡ true → (a ≡ true) × (b ≡ true)
 unfolding and

@@ -60,11 +60,11 @@ secondary-ends : {b : Base} {i : ℕ} {m : Message} {c : Base} {said : List Mess
 unfolding secondaryCheck
 secondary-ends {b} {i} {m} {c} H T = choose-ind (Ends b i m) (secondaryHolds c (idsOf m)) (λ e. stopping T (secondary H e)) (λ e. runningOn T)
 
-correct-list : (v : List ℕ) → HoldsList (correctFinal v)
+pub correct-list : (v : List ℕ) → HoldsList (correctFinal v)
 unfolding kindOf expected holdsOne or choose
 correct-list v n = refl
 
-verify-list : (v : List ℕ) → HoldsList (verifyFinal v)
+pub verify-list : (v : List ℕ) → HoldsList (verifyFinal v)
 unfolding kindOf expected holdsOne or choose
 verify-list v n = refl
 
@@ -125,6 +125,11 @@ pub start-cases : (P : Done → Type 0) (b : Base) (room : ℕ) → ((r : ℕ) �
 unfolding start
 start-cases P b room down on = unless-cases P (first (recordRefusal b) (outputRefusal room)) b (startStep b) (down _) (λ e. on (first-passed _ _ e .0))
 
+pub arrival-cases : (P : Done → Type 0) (b : Base) (link : ℕ) (burst : List ℕ) (room : ℕ) → ((r : ℕ) → r ≢ 0 → P (refuses b r))
+    → (arrivalRefusal b link burst room ≡ 0 → P (arrivalStep b (link - 1) (messageOf burst))) → P (arrival b link burst room)
+unfolding arrival
+arrival-cases P b link burst room down = unless-cases P (arrivalRefusal b link burst room) b (arrivalStep b (link - 1) (messageOf burst)) (down _)
+
 -- what an arrival that is not turned down has: a record to work on, a link's place and a valid message
 pub record Heard (b : Base) (i : ℕ) (m : Message) : Type 0 where
   pub refusal : recordRefusal b ≡ 0
@@ -149,9 +154,3 @@ arrival-heard b link burst room bytes e =
     let r = first-passed _ _ (q .1) in
     let N = record-passed b (p .0) .net in
     record { refusal = p .0; place = place-of (b .n) link N (q .0); valid = burst-valid (b .n) N burst bytes (r .1) }
-
-pub arrival-cases : (P : Done → Type 0) (b : Base) (link : ℕ) (burst : List ℕ) (room : ℕ) → Below 256 burst → ((r : ℕ) → r ≢ 0 → P (refuses b r))
-    → (Heard b (link - 1) (messageOf burst) → P (arrivalStep b (link - 1) (messageOf burst))) → P (arrival b link burst room)
-unfolding arrival
-arrival-cases P b link burst room bytes down on =
-    unless-cases P (arrivalRefusal b link burst room) b (arrivalStep b (link - 1) (messageOf burst)) (down _) (λ e. on (arrival-heard b link burst room bytes e))

@@ -2,7 +2,7 @@
 -- secondary. A prime needs n certified identifiers whose tallies sum to n² − 2t: after one Announce no link holds a Verify, so that the sum is n at
 -- most, and after any other message only the own identifier is certified.
 use Prim.Native.Nat.{ℕ, _-_, _≤_, _<_}
-use mathlib.Core.Path.{_≡_, refl, ap, _∙_}
+use mathlib.Core.Path.{subst, subst₂, sym, _≡_, refl, ap, _∙_}
 use mathlib.Core.Logic.{_≢_}
 use mathlib.Core.Bool.{Bool, true, false, not}
 use mathlib.Core.List.{List, [], _∷_}
@@ -22,13 +22,14 @@ use Rattle.protocol.specs.declared.Base.{Base}
 use Rattle.protocol.specs.Links.{announces, verifiesOf, holdsVerify, holdsVector, holdsCorrect}
 use Rattle.protocol.specs.Record.{linkAt, linkCount, links, certified, tally, tallySum, correctCount}
 use Rattle.protocol.specs.Record.Memory.{Sized}
-use Rattle.protocol.specs.Record.Laws.{link-room, announced-none}
+use Rattle.protocol.specs.Record.Laws.{link-room}
+use Rattle.protocol.specs.Record.Announced.{announced-none}
 use Rattle.protocol.specs.Sound.{idle, recordRefusal}
 use Rattle.protocol.specs.Sound.Laws.{EmptyParts, idle-place, sound-parts, record-passed}
 use Rattle.protocol.specs.Steps.{Done, discards, accepts, withLink, withState, withAnnounce, withVerify, withVector, primeHolds, votes, onMessage, encodeAll}
 use Rattle.protocol.specs.Steps.Cases.{holding, Takes, takesAnnounce, takesVerify, takesCorrect, takesAndVotes, takesVerifyFinal, Decides, prime, secondary, Ends, discarding, runningOn, stopping, message-ends, begun}
 use Rattle.protocol.specs.Steps.Checks.{prime-parts, secondary-parts, vote-parts}
-use Rattle.protocol.specs.Steps.Laws.{stored-other, stored-ind, takes-other}
+use Rattle.protocol.specs.Steps.Laws.{SameSetting, stored-other, takes-rest, takes-other, changed, takes-each}
 use Rattle.protocol.specs.Steps.Sizes.{Brief, bytes-one}
 
 -- ---- records that are not prime
@@ -87,20 +88,24 @@ module _ (c : Base) (N : NetSize (c .n)) (few : c .t ≤ mostFaulty (c .n)) (bla
   no-vote : (v : List ℕ) → votes (holding c i 3 v) v ≡ true → ⊥
   no-vote v e = omega (arith, vote-parts (holding c i 3 v) v e .correct, correct-most (holding c i 3 v) v (stored-other c i _))
 
-  silent-not-prime : (l : Link) → l .announce ≡ 0 → primeHolds (withLink c i l) ≡ true → ⊥
-  silent-not-prime l e = unannounced-not-prime (withLink c i l) (unfold withLink in N)
-      (λ j h. stored-ind (λ (k : ℕ) (x : Link). announces x ≡ false) c i l fits (no-announce l e) j (λ _. no-announce (linkAt c j) (blank j h .announce)))
+  silent-not-prime : {m : Message} {d : Base} {said : List Message} (T : Takes c i m d said) → changed T .announce ≡ 0 → primeHolds d ≡ true → ⊥
+  silent-not-prime {d = d} T e = unannounced-not-prime d (subst NetSize (sym (takes-rest T .setting .n)) N)
+      (takes-each (λ (j : ℕ) (l : Link). announces l ≡ false) mostLinks T fits (no-announce (changed T) e) (λ j h. no-announce (linkAt c j) (blank j h .announce)))
 
-  unheard-not-prime : (l : Link) → l .«verify_count» ≡ 0 → primeHolds (withLink c i l) ≡ true → ⊥
-  unheard-not-prime l e = unverified-not-prime (withLink c i l) (unfold withLink in N) (unfold withLink in few)
-      (λ j h g. stored-ind (λ (k : ℕ) (x : Link). holdsVerify x g ≡ false) c i l fits (no-verify l g e) j (λ _. no-verify (linkAt c j) g (blank j h .count)))
+  unheard-not-prime : {m : Message} {d : Base} {said : List Message} (T : Takes c i m d said) → changed T .«verify_count» ≡ 0 → primeHolds d ≡ true → ⊥
+  unheard-not-prime {d = d} T e = unverified-not-prime d (subst NetSize (sym (same .n)) N) (subst₂ (λ (t n : ℕ). t ≤ mostFaulty n) (sym (same .t)) (sym (same .n)) few)
+      (λ j h g. takes-each (λ (k : ℕ) (l : Link). holdsVerify l g ≡ false) mostLinks T fits (no-verify (changed T) g e) (λ k l. no-verify (linkAt c k) g (blank k l .count)) j h)
+    where
+      same : SameSetting c d
+      same = takes-rest T .setting
 
   no-prime : {m : Message} {d : Base} {said : List Message} → Takes c i m d said → primeHolds d ≡ true → ⊥
-  no-prime (takesAnnounce g p q r) = unheard-not-prime (withAnnounce (linkAt c i) g) (unfold withAnnounce in blank i here .count)
-  no-prime (takesVerify g p q) = silent-not-prime (withVerify (linkAt c i) g) (unfold withVerify in blank i here .announce)
-  no-prime (takesCorrect v p) = silent-not-prime (withVector (linkAt c i) 3 v) (unfold withVector in blank i here .announce)
-  no-prime (takesAndVotes v p) = absurd (no-vote v p)
-  no-prime (takesVerifyFinal v) = silent-not-prime (withVector (linkAt c i) 4 v) (unfold withVector in blank i here .announce)
+  unfolding changed withAnnounce withVerify withVector
+  no-prime (takesAnnounce g p q r) = unheard-not-prime (takesAnnounce g p q r) (blank i here .count)
+  no-prime (takesVerify g p q) = silent-not-prime (takesVerify g p q) (blank i here .announce)
+  no-prime (takesCorrect v p) = silent-not-prime (takesCorrect v p) (blank i here .announce)
+  no-prime (takesAndVotes v p) = silent-not-prime (takesAndVotes v p) (blank i here .announce)
+  no-prime (takesVerifyFinal v) = silent-not-prime (takesVerifyFinal v) (blank i here .announce)
 
   no-decision : {m : Message} {d : Base} {said : List Message} {state : ℕ} {v : List ℕ} → Takes c i m d said → Decides d m state v → ⊥
   no-decision T (prime e) = no-prime T e

@@ -9,16 +9,15 @@ use native.Mathlib.Omega.{arith}
 use lib.ListN.{length, getD, length-append}
 use Rattle.limits.specs.Limits.{mostBases, frameBytes, longestFrame, outputRoom}
 use Rattle.lists.specs.Lists.{Below, padTo}
-use Rattle.frame.specs.Message.{Message, announce, verify, correctFinal, verifyFinal, kindOf, idsOf, Valid}
-use Rattle.frame.specs.Message.Laws.{expected-range}
+use Rattle.frame.specs.Message.{Message, announce, verify, correctFinal, verifyFinal, idsOf}
 use Rattle.frame.specs.Encoding.{encode}
 use Rattle.protocol.specs.declared.Base.{Base}
 use Rattle.protocol.specs.Record.Memory.{Sized}
-use Rattle.protocol.specs.Sound.{idle, recordRefusal}
+use Rattle.protocol.specs.Sound.{idle}
 use Rattle.protocol.specs.Sound.Laws.{record-passed, sound-parts, idle-unsent}
 use Rattle.protocol.specs.Steps.{Done, refuses, discards, accepts, withState, onMessage, begins, startStep, start, arrivalStep, arrival, encodeAll, lengths}
-use Rattle.protocol.specs.Steps.Cases.{begun, afterStart, Heard, arrival-idle, start-step-cases, start-cases, arrival-step-cases, arrival-cases}
-use Rattle.protocol.specs.Steps.Sizes.{Brief, saidRoom, bytes-append, bytes-one, message-brief}
+use Rattle.protocol.specs.Steps.Cases.{begun, afterStart, Heard, arrival-heard, arrival-idle, start-step-cases, start-cases, arrival-step-cases, arrival-cases}
+use Rattle.protocol.specs.Steps.Sizes.{Brief, saidRoom, bytes-append, bytes-one, valid-fits, message-brief}
 use Rattle.protocol.specs.Steps.First.{Quiet, idle-first}
 
 -- ---- steps
@@ -43,10 +42,6 @@ start-step-brief b = start-step-cases (Brief 3 outputRoom) b (λ _. begins-brief
       where
         nothing : encodeAll [] ≡ []
         nothing = unfold encodeAll in refl
-
--- a valid message has at most as many identifiers as a net can have bases
-valid-fits : (b : Base) (m : Message) → recordRefusal b ≡ 0 → Valid (b .n) m → length (idsOf m) ≤ mostBases
-valid-fits b m e w = let N = record-passed b e .net in omega (arith, w .count, expected-range (kindOf m) (b .n) mostBases (omega (arith, N .least)) (N .most) .1)
 
 said-fits : (m : Message) → length (idsOf m) ≤ mostBases → saidRoom m ≤ longestFrame
 unfolding saidRoom idsOf
@@ -93,7 +88,7 @@ pub start-brief : (b : Base) (room : ℕ) → Brief 3 outputRoom (start b room)
 start-brief b room = start-cases (Brief 3 outputRoom) b room (λ r _. refuses-brief b r) (λ _. start-step-brief b)
 
 pub arrival-brief : (b : Base) (link : ℕ) (burst : List ℕ) (room : ℕ) → Sized b → Below 256 burst → Brief 3 outputRoom (arrival b link burst room)
-arrival-brief b link burst room S bytes = arrival-cases (Brief 3 outputRoom) b link burst room bytes (λ r _. refuses-brief b r) (arrival-step-brief b _ _ S)
+arrival-brief b link burst room S bytes = arrival-cases (Brief 3 outputRoom) b link burst room (λ r _. refuses-brief b r) (λ e. arrival-step-brief b _ _ S (arrival-heard b link burst room bytes e))
 
 -- ---- the lengths answered
 -- the k-th is that of the k-th frame, and zero for none

@@ -8,11 +8,14 @@ use native.Mathlib.Omega.{arith}
 use lib.ListN.{length, length-append}
 use Rattle.limits.specs.Limits.{mostBases, frameBytes, longestFrame, outputRoom}
 use Rattle.lists.specs.Lists.Sorted.{length-sort}
-use Rattle.frame.specs.Message.{Message, announce, verify, correctFinal, verifyFinal, kindOf, idsOf}
+use Rattle.frame.specs.Message.{Message, announce, verify, correctFinal, verifyFinal, kindOf, idsOf, Valid}
 use Rattle.frame.specs.Encoding.{encode}
 use Rattle.frame.specs.Encoding.Laws.{length-frame}
 use Rattle.protocol.specs.declared.Base.{Base}
 use Rattle.protocol.specs.Record.{certified}
+use Rattle.protocol.specs.Sound.{recordRefusal}
+use Rattle.protocol.specs.Sound.Laws.{record-passed}
+use Rattle.frame.specs.Message.Laws.{expected-range}
 use Rattle.protocol.specs.Steps.{Done, discards, accepts, stops, onAnnounce, onVerify, onCorrectFinal, onVerifyFinal, onMessage, encodeAll}
 use Rattle.protocol.specs.Steps.Cases.{Takes, takesAnnounce, takesVerify, takesCorrect, takesAndVotes, takesVerifyFinal, Decides, prime, secondary, Ends, discarding, runningOn, stopping, message-ends}
 use Rattle.protocol.specs.Steps.Checks.{prime-parts}
@@ -52,8 +55,12 @@ takes-said (takesCorrect v p) = (omega arith, omega arith)
 takes-said (takesAndVotes v p) = (omega arith, omega (arith, bytes-one (verifyFinal v)))
 takes-said (takesVerifyFinal v) = (omega arith, omega arith)
 
+-- a valid message has at most as many identifiers as a net can have bases
+pub valid-fits : (b : Base) (m : Message) → recordRefusal b ≡ 0 → Valid (b .n) m → length (idsOf m) ≤ mostBases
+valid-fits b m e w = let N = record-passed b e .net in omega (arith, w .count, expected-range (kindOf m) (b .n) mostBases (omega (arith, N .least)) (N .most) .1)
+
 -- the list that becomes final fits in a frame
-decides-fits : {c : Base} {m : Message} {state : ℕ} {v : List ℕ} → c .n ≤ mostBases → length (idsOf m) ≤ mostBases → Decides c m state v → length v ≤ mostBases
+pub decides-fits : {c : Base} {m : Message} {state : ℕ} {v : List ℕ} → c .n ≤ mostBases → length (idsOf m) ≤ mostBases → Decides c m state v → length v ≤ mostBases
 decides-fits {c} h k (prime e) = omega (arith, length-sort (certified c), prime-parts c e .count)
 decides-fits h k (secondary H e) = k
 
