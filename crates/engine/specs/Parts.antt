@@ -9,7 +9,6 @@ use Rattle.lists.specs.Lists.{padTo}
 use Rattle.protocol.specs.declared.Base.{Base}
 use Rattle.protocol.specs.Steps.{Done, encodeAll}
 use Rattle.engine.specs.declared.stop.Checked.{Checked}
-
 pub mod Laws
 
 -- an array that holds n identifiers, zeros behind

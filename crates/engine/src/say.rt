@@ -1,6 +1,8 @@
 // Frames broadcast, and the answers of a call.
 use limits::MOST_BASES;
-use protocol::{Base, Outcome, Step};
+use protocol::Base;
+use protocol::Outcome;
+use protocol::Step;
 use writer::put;
 ghost use Prim.Native.Nat.{_+_, _≤_};
 ghost use mathlib.Core.Path.{_≡_};

@@ -1,6 +1,7 @@
 // The prime check and the secondary check: a base that passes one stops, and broadcasts its Correct-Final.
 use crate::say::say_list;
-use checks::{is_prime, is_secondary};
+use checks::is_prime;
+use checks::is_secondary;
 use limits::MOST_BASES;
 use protocol::Base;
 use roster::certified_sorted;

@@ -1,20 +1,19 @@
 -- What the checks leave and broadcast, as the code writes it: frames one behind another.
-use Prim.Native.Nat.{ℕ, _+_, _≤_}
-use mathlib.Core.Path.{_≡_, refl, sym, ap, ap₂, _∙_}
+use Prim.Native.Nat.{ℕ}
+use mathlib.Core.Path.{_≡_, refl, sym, ap, _∙_}
 use mathlib.Core.Bool.{true, false}
-use mathlib.Core.List.{List, [], _∷_, _++_, append-nil}
-use native.Mathlib.Omega.{arith}
-use lib.ListN.{length, take}
-use Rattle.limits.specs.Limits.{mostBases, frameBytes}
+use mathlib.Core.List.{List, [], _∷_, append-nil}
+use lib.ListN.{length}
+use Rattle.limits.specs.Limits.{mostBases}
 use Rattle.lists.specs.Choice.Laws.{choose-yes, choose-no}
 use Rattle.lists.specs.Lists.{sort, padTo}
 use Rattle.lists.specs.Lists.Laws.{pad-front}
 use Rattle.frame.specs.Message.{Message, kindOf, idsOf, correctFinal}
-use Rattle.frame.specs.Encoding.{frameOf, encode, over}
-use Rattle.frame.specs.Encoding.Laws.{over-nothing, length-frame}
+use Rattle.frame.specs.Encoding.{frameOf, encode}
+use Rattle.frame.specs.Encoding.Laws.{over-nothing}
 use Rattle.protocol.specs.declared.Base.{Base}
 use Rattle.protocol.specs.Record.{certified}
-use Rattle.protocol.specs.Steps.{Done, accepts, primeHolds, secondaryHolds, stops, primeCheck, secondaryCheck, withState, withFinal, encodeAll, outputOf}
+use Rattle.protocol.specs.Steps.{accepts, primeHolds, secondaryHolds, stops, primeCheck, secondaryCheck, withState, withFinal, encodeAll, outputOf}
 use Rattle.engine.specs.declared.stop.Checked.{Checked}
 use Rattle.engine.specs.Parts.{Holds, checkedOf}
 

@@ -1,12 +1,9 @@
 -- `engine::say::discarded` meets its contract: nothing is broadcast and nothing changes.
-use Rattle.protocol.specs.Steps.{stepOf, discards, outcomeOf, lengths}
 use mathlib.Core.Path.{refl}
+use Rattle.protocol.specs.Steps.{stepOf, discards, outcomeOf, lengths}
 use Rattle.engine.proofs.say.discarded.Statement.{statement}
 use Rattle.engine.proofs.say.discarded.Tie as tie
-use Rattle.engine.proofs.say.discarded.Reads as reads
-use Rattle.engine.proofs.say.discarded.Lts as lts
 
--- src/say.rt:39:1
 returns : tie.Need-returns
 unfolding stepOf discards outcomeOf lengths
 returns c = refl

@@ -1,12 +1,9 @@
 -- `engine::say::refused` meets its contract: nothing is broadcast and nothing changes.
-use Rattle.protocol.specs.Steps.{stepOf, refuses, outcomeOf}
 use mathlib.Core.Path.{refl}
+use Rattle.protocol.specs.Steps.{stepOf, refuses, outcomeOf}
 use Rattle.engine.proofs.say.refused.Statement.{statement}
 use Rattle.engine.proofs.say.refused.Tie as tie
-use Rattle.engine.proofs.say.refused.Reads as reads
-use Rattle.engine.proofs.say.refused.Lts as lts
 
--- src/say.rt:30:1
 returns : tie.Need-returns
 unfolding stepOf refuses outcomeOf
 returns c = refl
