@@ -25,7 +25,7 @@ use Rattle.protocol.specs.Steps.{withAnnounce, withVerify, withVector}
 
 pub not-full : (n : ℕ) (l : Link) → full n l ≡ false → used l < n + 1
 unfolding full
-not-full n l e = leb-false (n + 1) (used l) e
+not-full n l e = omega (arith, leb-false _ (used l) e)
 
 module _ {n : ℕ} {l : Link} (P : LinkParts n l) where
   pub announce-parts : (g : ℕ) → full n l ≡ false → LinkParts n (withAnnounce l g)

@@ -63,9 +63,9 @@ roster-valid n v R words = record { count = R .count; above-zero = R .above-zero
 takes-valid : {b : Base} {i : ℕ} {m : Message} {c : Base} {said : List Message} (n : ℕ) → Takes b i m c said → Valid n m → AllValid n said
 takes-valid n (takesAnnounce g p q r) w = (verify-valid n g w, tt)
 takes-valid n (takesVerify g p q) w = tt
-takes-valid n (takesCorrect v p) w = tt
-takes-valid n (takesAndVotes v p) w = (final-valid n v w, tt)
-takes-valid n (takesVerifyFinal v) w = tt
+takes-valid n (takesCorrect v o p) w = tt
+takes-valid n (takesAndVotes v o p) w = (final-valid n v w, tt)
+takes-valid n (takesVerifyFinal v o) w = tt
 
 certified-words : (c : Base) → Words c → Below (2 ^ 32) (certified c)
 unfolding certified
@@ -76,7 +76,7 @@ decides-valid : {c : Base} {m : Message} {state : ℕ} {v : List ℕ} → Runs c
 decides-valid {c} {m} {v = v} R W w D = roster-valid (c .n) v (decides-roster (R .standing .own) (R .standing .apart) w D) (words D)
   where
     words : {state : ℕ} {v : List ℕ} → Decides c m state v → Below (2 ^ 32) v
-    words (prime e) = below-sort (2 ^ 32) (certified c) (omega arith) (certified-words c W)
+    words (prime H e) = below-sort (2 ^ 32) (certified c) (omega arith) (certified-words c W)
     words (secondary H e) = w .words
 
 -- ---- steps
