@@ -1,30 +1,30 @@
 -- The announced identifiers, one place more: what that does to a membership, to their number, to a sum over them and to whether they differ.
-use Prim.Native.Nat.{ℕ, zero, suc, _+_}
+use Prim.Native.Nat.{ℕ, zero, _+_}
 use mathlib.Core.Path.{_≡_, refl, sym, ap, _∙_}
 use mathlib.Core.Bool.{Bool, true, false, not}
 use mathlib.Core.List.{_∷_}
 use native.Mathlib.Numerals.{add-one}
 use native.Mathlib.Nat.{add-comm}
 use native.Mathlib.Omega.{arith}
-use borrow.Author.Tests.{eqb-true}
+use borrow.Author.Tests.{eqb-true, not-true}
 use lib.Dec.{eqb}
 use lib.ListN.{length}
 use Rattle.lists.specs.Choice.{choose, and, or}
-use Rattle.lists.specs.Choice.Laws.{and-true, choose-yes, choose-no}
+use Rattle.lists.specs.Choice.Laws.{and-true}
 use Rattle.lists.specs.Lists.{member, distinct, sumOver}
 use Rattle.counting.specs.Sums.{bit}
 use Rattle.protocol.specs.declared.Link.{Link}
 use Rattle.protocol.specs.Links.{announces}
 use Rattle.protocol.specs.Record.{announced}
+use Rattle.protocol.specs.Record.Announced.{announced-next, announced-skip, nonzero-announced}
+use Rattle.lists.specs.Lists.Laws.{nonzero-member}
 
 module _ (at : ℕ → Link) (j : ℕ) where
   announced-yes : announces (at j) ≡ true → announced (j + 1) at ≡ at j .announce ∷ announced j at
-  unfolding announced
-  announced-yes e = rw add-one (choose-yes (at j .announce ∷ announced j at) (announced j at) e)
+  announced-yes e = rw add-one (announced-next j at e)
 
   announced-no : announces (at j) ≡ false → announced (j + 1) at ≡ announced j at
-  unfolding announced
-  announced-no e = rw add-one (choose-no (at j .announce ∷ announced j at) (announced j at) e)
+  announced-no e = rw add-one (announced-skip j at e)
 
   pub member-there : (g : ℕ) → and (announces (at j)) (eqb (at j .announce) g) ≡ true → member g (announced (j + 1) at) ≡ true
   unfolding member or
@@ -56,13 +56,7 @@ module _ (at : ℕ → Link) (j : ℕ) where
 
 -- zero is never announced
 member-zero : (at : ℕ → Link) (k : ℕ) → member 0 (announced k at) ≡ false
-unfolding announced member or announces
-member-zero at zero = refl
-member-zero at (suc k) = go (eqb (at k .announce) 0) refl (member-zero at k)
-  where
-    go : (t : Bool) → eqb (at k .announce) 0 ≡ t → member 0 (announced k at) ≡ false → member 0 (choose (not t) (at k .announce ∷ announced k at) (announced k at)) ≡ false
-    go true p e = unfold choose in e
-    go false p e = unfold choose in rw (p, e)
+member-zero at k = not-true _ (sym (nonzero-member (announced k at)) ∙ nonzero-announced k at)
 
 module _ (at : ℕ → Link) (j : ℕ) where
   announced-sort : member (at j .announce) (announced j at) ≡ true → announces (at j) ≡ true
