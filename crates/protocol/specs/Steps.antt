@@ -21,14 +21,15 @@ use Rattle.protocol.specs.Links.{announces, holdsVerify, full}
 use Rattle.protocol.specs.Record.{linkAt, certified, tallySum, suspects, listTally, correctCount, finalList}
 use Rattle.protocol.specs.Sound.{idle, stopped, recordRefusal}
 pub mod Cases
+pub mod Refusals
 pub mod Laws
-pub mod Sizes
 pub mod Checks
-pub mod First
-pub mod Output
+pub mod Certified
 pub mod Decided
 pub mod Memory
-pub mod Certified
+pub mod Sizes
+pub mod First
+pub mod Output
 pub mod Answers
 pub mod Broadcasts
 pub mod Calls

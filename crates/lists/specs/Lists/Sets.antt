@@ -1,11 +1,11 @@
 -- A list as the set of its members: one more element somewhere in it, and what holds of each member.
-use Prim.Native.Nat.{ℕ, zero, suc, _<_}
+use Prim.Native.Nat.{ℕ, zero, suc, _<_, _≤_}
 use mathlib.Core.Path.{_≡_, refl, sym, ap, _∙_}
 use mathlib.Core.Logic.{_⊎_, inl, inr}
 use mathlib.Core.Bool.{Bool, true, false, not}
 use mathlib.Core.List.{List, [], _∷_, _++_}
 use native.Mathlib.Omega.{arith}
-use borrow.Author.Tests.{eqb-true, eq-eqb, not-true}
+use borrow.Author.Tests.{eqb-true, eqb-false, eq-eqb, not-true}
 use lib.Dec.{eqb}
 use lib.ListN.{length}
 use Rattle.lists.specs.Choice.{or}
@@ -79,6 +79,13 @@ nonzero-snoc [] y e f = f
 nonzero-snoc (z ∷ l) y e f = let p = and-true (not (eqb z 0)) (nonzero l) e in and-both (p .0) (nonzero-snoc l y (p .1) f)
 
 -- ---- what holds of each member
+pub nonzero-one : (x : ℕ) → nonzero (x ∷ []) ≡ true → 1 ≤ x
+unfolding nonzero
+nonzero-one x e = go (eqb-false x 0 (not-true (eqb x 0) (and-true _ _ e .0)))
+  where
+    go : (x ≡ 0 → ⊥) → 1 ≤ x
+    go h = omega (arith, h)
+
 -- each element is below a bound: each member is
 pub below-member : (m x : ℕ) (l : List ℕ) → Below m l → member x l ≡ true → x < m
 below-member m x [] h e = clash e (unfold member in refl)

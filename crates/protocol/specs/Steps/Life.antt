@@ -12,7 +12,7 @@ use Rattle.limits.specs.Refusals.{NetSize}
 use Rattle.lists.specs.Choice.{choose}
 use Rattle.lists.specs.Choice.Laws.{choose-ind}
 use Rattle.lists.specs.Lists.{nonzero}
-use Rattle.lists.specs.Lists.Sets.{inserted-length}
+use Rattle.lists.specs.Lists.Sets.{inserted-length, nonzero-one}
 use Rattle.counting.specs.Sums.{bit}
 use Rattle.counting.specs.Sums.Bounds.{bit-most}
 use Rattle.frame.specs.Message.{Message, announce, correctFinal, idsOf, Valid}
@@ -24,9 +24,10 @@ use Rattle.protocol.specs.Record.Memory.{Sized}
 use Rattle.protocol.specs.Sound.{idle}
 use Rattle.protocol.specs.Sound.Laws.{record-passed}
 use Rattle.protocol.specs.Steps.{Done, refuses, discards, accepts, withLink, withSent, withState, withFinal, withVerify, withVector, stops, onMessage, begins, startStep, arrivalStep}
-use Rattle.protocol.specs.Steps.Cases.{holding, Takes, takesAnnounce, takesVerify, takesCorrect, takesAndVotes, takesVerifyFinal, Decides, prime, secondary, Ends, discarding, runningOn, stopping, message-ends, begun, afterStart, Heard, arrival-heard, start-step-cases, arrival-step-cases, start-cases, arrival-cases}
+use Rattle.protocol.specs.Steps.Cases.{holding, Takes, takesAnnounce, takesVerify, takesCorrect, takesAndVotes, takesVerifyFinal, Decides, prime, secondary, Ends, discarding, runningOn, stopping, message-ends, begun, afterStart, start-step-cases, arrival-step-cases}
+use Rattle.protocol.specs.Steps.Refusals.{Heard, arrival-heard, start-cases, arrival-cases}
 use Rattle.protocol.specs.Steps.Calls.{Call, starts, arrives, CallBytes, called, AllBytes, after, life, call-held, after-setting}
-use Rattle.protocol.specs.Steps.Certified.{announcedTo, announced-kept, announced-added, above-zero}
+use Rattle.protocol.specs.Steps.Certified.{announcedTo, announced-kept, announced-added}
 use Rattle.protocol.specs.Steps.Checks.{vote-parts}
 use Rattle.protocol.specs.Steps.Laws.{takes-rest, changed}
 use Rattle.protocol.specs.Steps.Memory.{begun-sized}
@@ -60,7 +61,7 @@ spent-start heard sent = omega arith
 
 spent-stop : {c : Base} {m : Message} {state : ℕ} {v : List ℕ} → Decides c m state v → (heard sent : ℕ) → spentBy state heard sent ≡ spentBy 1 heard sent + 1
 unfolding spentBy bit choose
-spent-stop (prime e) heard sent = omega arith
+spent-stop (prime H e) heard sent = omega arith
 spent-stop (secondary H e) heard sent = omega arith
 
 -- ---- a step's messages are what its record has more
@@ -82,14 +83,14 @@ module _ {b : Base} {i : ℕ} (below : i < linkCount b) (fits : i < length (b .l
   takes-paid : {m : Message} {c : Base} {said : List Message} → Takes b i m c said → nonzero (idsOf m) ≡ true → spent b + length said ≡ spent c
   unfolding spent withLink withSent idsOf changed withVerify withVector
   takes-paid (takesAnnounce g p q r) some =
-      sym (spent-heard (b .state) (length (announcedTo b)) (b .sent)) ∙ ap (λ (k : ℕ). spentBy (b .state) k (b .sent)) (sym (inserted-length (announced-added b i g below fits (above-zero g some) p)))
+      sym (spent-heard (b .state) (length (announcedTo b)) (b .sent)) ∙ ap (λ (k : ℕ). spentBy (b .state) k (b .sent)) (sym (inserted-length (announced-added b i g below fits (nonzero-one g some) p)))
   takes-paid (takesVerify g p q) some = omega (arith, same-paid (takesVerify g p q) refl)
-  takes-paid (takesCorrect v p) some = omega (arith, same-paid (takesCorrect v p) refl)
-  takes-paid (takesAndVotes v p) some =
+  takes-paid (takesCorrect v o p) some = omega (arith, same-paid (takesCorrect v o p) refl)
+  takes-paid (takesAndVotes v o p) some =
       let unsent : b .sent ≡ 0 = vote-parts (holding b i 3 v) v p .unsent in
       let heard = length (announcedTo (withSent (holding b i 3 v))) in
-      omega (arith, same-paid (takesAndVotes v p) refl, ap (spentBy (b .state) heard) unsent, spent-vote (b .state) heard)
-  takes-paid (takesVerifyFinal v) some = omega (arith, same-paid (takesVerifyFinal v) refl)
+      omega (arith, same-paid (takesAndVotes v o p) refl, ap (spentBy (b .state) heard) unsent, spent-vote (b .state) heard)
+  takes-paid (takesVerifyFinal v o) some = omega (arith, same-paid (takesVerifyFinal v o) refl)
 
   ends-paid : {m : Message} {d : Done} → nonzero (idsOf m) ≡ true → b .state ≡ 1 → Ends b i m d → Paid b d
   unfolding discards accepts
