@@ -25,3 +25,12 @@ readingOf n s = choose (eqb (readRefusal n s) 0) (Message (kindByte s) (countByt
 -- the identifiers of a body in an array of their room; of a longer stretch its first ones
 unfoldable pub idArray : List ℕ → List ℕ
 idArray s = padTo mostBases (identifiers (min mostBases (length s / 4)) s)
+
+-- a reading tied to its number, 0 for a message, and to the message's kind
+unfoldable pub numberIn : Reading → ℕ
+numberIn (Message kind count start) = 0
+numberIn (Refused r) = r
+
+unfoldable pub kindIn : Reading → ℕ
+kindIn (Message kind count start) = kind
+kindIn (Refused r) = 0

@@ -1,6 +1,6 @@
 -- What the checks leave and broadcast, as the code writes it: frames one behind another.
 use Prim.Native.Nat.{_<_, _-_, _≤_, ℕ, _+_}
-use mathlib.Core.Path.{_≡_, refl, sym, ap, _∙_}
+use mathlib.Core.Path.{_≡_, refl, sym, ap, _∙_, subst}
 use mathlib.Core.Bool.{Bool, true, false, not}
 use mathlib.Core.List.{_++_, List, [], _∷_, append-nil}
 use native.Mathlib.Omega.{arith}
@@ -18,7 +18,7 @@ use Rattle.protocol.specs.declared.Base.{Base}
 use Rattle.protocol.specs.declared.Step.{Step}
 use Rattle.protocol.specs.declared.Outcome.the-variants.{Accepted}
 use Rattle.protocol.specs.Record.{certified, linkAt}
-use Rattle.protocol.specs.Steps.{Done, refuses, discards, accepts, primeHolds, secondaryHolds, stops, primeCheck, secondaryCheck, withLink, withSent, withState, withFinal, withAnnounce, withVerify, withVector, onAnnounce, onVerify, votes, vote, onCorrectFinal, onVerifyFinal, encodeAll, lengths, outcomeOf, stepOf, outputOf}
+use Rattle.protocol.specs.Steps.{Done, refuses, discards, accepts, primeHolds, secondaryHolds, stops, primeCheck, secondaryCheck, withLink, withSent, withState, withFinal, withAnnounce, withVerify, withVector, onAnnounce, onVerify, votes, vote, onCorrectFinal, onVerifyFinal, encodeAll, lengths, outcomeOf, stepOf, outputOf, begins}
 use Rattle.protocol.specs.Links.{announces, holdsVerify, used, full}
 use Rattle.protocol.specs.declared.Link.{Link}
 use Rattle.engine.specs.declared.stop.Checked.{Checked}
@@ -221,3 +221,22 @@ unfolding withVector
 stored-vector b i kind n v h =
     let l = linkAt b i in
     ap (λ (list : List ℕ). withLink b i (record { announce = l .announce; verifies = l .verifies; list = list; «verify_count» = l .«verify_count»; held = kind })) h
+
+-- ---- a start
+pub begins-step : (b : Base) (front next : ℕ) (r : Step) → front ≡ frameBytes 1 → next ≡ front → r ≡ record { outcome = Accepted front next 0; base = withState b 1 } → r ≡ stepOf (begins b)
+unfolding stepOf begins accepts outcomeOf lengths encode kindOf idsOf
+begins-step b front next r e f q =
+    let first : front ≡ length (frameOf 1 (b .own ∷ [])) = e ∙ sym (length-frame 1 (b .own ∷ [])) in
+    let second : next ≡ length (frameOf 2 (b .own ∷ [])) = f ∙ e ∙ sym (length-frame 2 (b .own ∷ [])) in
+    q ∙ (λ i. record { outcome = Accepted (first i) (second i) 0; base = withState b 1 })
+
+pub begins-output : (b : Base) (output after : List ℕ) → after ≡ over (frameOf 1 (b .own ∷ []) ++ frameOf 2 (b .own ∷ [])) output → after ≡ outputOf (begins b) output
+unfolding outputOf begins accepts encodeAll encode kindOf idsOf
+begins-output b output after p = p ∙ ap (λ (f : List ℕ). over (frameOf 1 (b .own ∷ []) ++ f) output) (sym (append-nil (frameOf 2 (b .own ∷ []))))
+
+-- ---- a call that does what another definition says
+pub does : (d k : Done) (r : Step) (output after : List ℕ) → d ≡ k → (r ≡ stepOf k) × (after ≡ outputOf k output) → (r ≡ stepOf d) × (after ≡ outputOf d output)
+does d k r output after e p = (p .0 ∙ ap stepOf (sym e), p .1 ∙ ap (λ (x : Done). outputOf x output) (sym e))
+
+pub needs-room : {d k : Done} (room : ℕ) → d ≡ k → length (encodeAll (d .says)) ≤ room → length (encodeAll (k .says)) ≤ room
+needs-room room e h = subst (λ (x : Done). length (encodeAll (x .says)) ≤ room) e h

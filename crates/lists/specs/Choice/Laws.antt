@@ -1,10 +1,10 @@
 -- Laws of choices: what holds of both ways holds of the choice, and what a chain of checks that gives no number tells.
-use mathlib.Core.Path.{_≡_, refl, sym, ap, _∙_}
-use mathlib.Core.Logic.{_⊎_, inl, inr}
-use mathlib.Core.Bool.{Bool, true, false, not}
 use Prim.Native.Nat.{ℕ, suc}
+use mathlib.Core.Path.{_≡_, refl, sym, _∙_}
+use mathlib.Core.Logic.{_⊎_, inl, inr}
+use mathlib.Core.Bool.{Bool, true, false}
 use native.Mathlib.Omega.{arith}
-use borrow.Author.Tests.{eq-eqb, ne-eqb, eqb-true}
+use borrow.Author.Tests.{eq-eqb, ne-eqb, eqb-true, eqb-false}
 use lib.Dec.{eqb}
 use Rattle.lists.specs.Choice.{choose, and, or, first}
 
@@ -102,6 +102,10 @@ first-given {a} b e = choose-no b a (ne-eqb a 0 e)
 pub first-last : (a : ℕ) {b : ℕ} → b ≡ 0 → first a b ≡ a
 unfolding first
 first-last a {b} e = choose-ind (λ (r : ℕ). r ≡ a) (eqb a 0) (λ p. e ∙ sym (eqb-true a 0 p)) (λ _. refl)
+
+pub first-assoc : (a b c : ℕ) → first a (first b c) ≡ first (first a b) c
+unfolding first
+first-assoc a b c = choose-ind (λ (r : ℕ). choose (eqb a 0) (first b c) a ≡ first r c) (eqb a 0) (λ e. choose-yes _ _ e ∙ (unfold first in refl)) (λ e. choose-no _ _ e ∙ sym (first-given c (eqb-false a 0 e)))
 
 pub first-passed : (a b : ℕ) → first a b ≡ 0 → (a ≡ 0) × (b ≡ 0)
 unfolding first choose

@@ -37,7 +37,7 @@ start-bytes : (own : ℕ) (says : List Message) → length (encodeAll (announce 
 unfolding idsOf
 start-bytes own says = omega (arith, bytes-append (announce own ∷ []) (verify own ∷ says), bytes-append (verify own ∷ []) says, bytes-one (announce own), bytes-one (verify own))
 
-begins-bytes : (b : Base) → length (encodeAll (begins b .says)) ≡ 2 * frameBytes 1
+pub begins-bytes : (b : Base) → length (encodeAll (begins b .says)) ≡ 2 * frameBytes 1
 unfolding begins accepts
 begins-bytes b = omega (arith, start-bytes (b .own) [], nothing)
   where

@@ -6,13 +6,13 @@ use mathlib.Core.Logic.{_≢_}
 use mathlib.Core.Bool.{not}
 use mathlib.Core.List.{List}
 use native.Mathlib.Omega.{arith}
-use borrow.Author.Tests.{ltb-false, eqb-true, eqb-false, eq-eqb, ne-eqb}
+use borrow.Author.Tests.{ltb-false, lt-ltb, le-ltb, eqb-true, eqb-false, eq-eqb, ne-eqb}
 use lib.Dec.{eqb}
 use Rattle.limits.specs.Limits.{outputRoom}
 use Rattle.limits.specs.Refusals.{NetSize}
 use Rattle.limits.specs.Refusals.Laws.{net-passes}
 use Rattle.lists.specs.Choice.{first}
-use Rattle.lists.specs.Choice.Laws.{choose-ind, choose-yes, choose-no, or-false, passed, first-none, first-passed}
+use Rattle.lists.specs.Choice.Laws.{choose-ind, choose-yes, choose-no, or-false, or-first, or-second, or-neither, passed, first-none, first-passed}
 use Rattle.lists.specs.Lists.{Below}
 use Rattle.frame.specs.Message.{Message, Valid}
 use Rattle.frame.specs.Reading.{burstRefusal, readRefusal, messageOf}
@@ -78,6 +78,27 @@ link-passed n link e =
 pub output-passed : (room : ℕ) → outputRefusal room ≡ 0 → outputRoom ≤ room
 unfolding outputRefusal
 output-passed room e = ltb-false room outputRoom (passed _ 5 _ e .0)
+
+-- and what they are given for
+pub link-short : (n link : ℕ) → link < 1 → linkRefusal n link ≡ 5
+unfolding linkRefusal
+link-short n link h = choose-yes _ _ (or-first _ (lt-ltb link 1 h))
+
+pub link-far : (n link : ℕ) → 1 ≤ link → n ≤ link → linkRefusal n link ≡ 5
+unfolding linkRefusal
+link-far n link h k = choose-yes _ _ (or-second _ (lt-ltb (n - 1) link (omega arith)))
+
+pub link-near : (n link : ℕ) → 1 ≤ link → link < n → linkRefusal n link ≡ 0
+unfolding linkRefusal
+link-near n link h k = choose-no _ _ (or-neither (le-ltb link 1 h) (le-ltb (n - 1) link (omega arith)))
+
+pub output-short : (room : ℕ) → room < outputRoom → outputRefusal room ≡ 6
+unfolding outputRefusal
+output-short room h = choose-yes _ _ (lt-ltb room outputRoom h)
+
+pub output-wide : (room : ℕ) → outputRoom ≤ room → outputRefusal room ≡ 0
+unfolding outputRefusal
+output-wide room h = choose-no _ _ (le-ltb room outputRoom h)
 
 pub arrival-heard : (b : Base) (link : ℕ) (burst : List ℕ) (room : ℕ) → Below 256 burst → arrivalRefusal b link burst room ≡ 0 → Heard b (link - 1) (messageOf burst)
 unfolding arrivalRefusal

@@ -1,0 +1,82 @@
+// The arrival call.
+use crate::begin::begin;
+use crate::begin::behind_start;
+use crate::message::on_message;
+use crate::say::discarded;
+use crate::say::refused;
+use limits::MOST_BASES;
+use limits::OUTPUT_ROOM;
+use protocol::Base;
+use protocol::Step;
+use reader::Reading;
+use reader::body;
+use reader::identifiers;
+use reader::read;
+use soundness::refusals::record_refusal;
+ghost use Prim.Native.Nat.{_≤_};
+ghost use mathlib.Core.Path.{_≡_};
+ghost use lib.ListN.{length};
+ghost use Rattle.limits.specs.Limits.{outputRoom};
+ghost use Rattle.protocol.specs.Steps.{arrival, arrivalStep, stepOf, outputOf};
+ghost use Rattle.engine.specs.Parts.{Burst, Ready, messageIn, placeRefusal};
+
+// Numbers 1 to 6, 0 for none.
+fn place_refusal(base: Base, link: usize, room: usize) -> u8
+    ensures { λ r. ⌜ r ≡ placeRefusal base link room ⌝ }
+{
+    let record = record_refusal(base);
+    if record != 0 {
+        return record;
+    }
+    if link < 1 {
+        return 5;
+    }
+    if (base.n as usize) <= link {
+        return 5;
+    }
+    if room < OUTPUT_ROOM {
+        return 6;
+    }
+    0
+}
+
+// A message that was read, on the link at place i.
+fn step(base: Base, i: usize, kind: u8, ids: [u32; MOST_BASES], out: &mut [u8]) -> Step
+    requires { ⌜ Ready base i × (Burst (base .n) kind ids × (outputRoom ≤ length (now out))) ⌝ }
+    ensures { λ r. ⌜ (r ≡ stepOf (arrivalStep base i (messageIn (base .n) kind ids))) × (now (out .exit) ≡ outputOf (arrivalStep base i (messageIn (base .n) kind ids)) (now (out .entry))) ⌝ }
+{
+    if 2 <= base.state {
+        return discarded(base);
+    }
+    if base.state != 0 {
+        return on_message(base, i, kind, ids, out);
+    }
+    let started = begin(base, out);
+    let next = started.base;
+    let rest = on_message(next, i, kind, ids, &mut out[16..]);
+    let answer = rest.outcome;
+    let after = rest.base;
+    Step {
+        outcome: behind_start(answer),
+        base: after,
+    }
+}
+
+// A burst arrives on a link, 1 to n - 1. Turned down by 1 to 12.
+pub fn arrive(base: Base, link: usize, burst: &[u8], out: &mut [u8]) -> Step
+    ensures { λ r. ⌜ (r ≡ stepOf (arrival base link (now (burst .entry)) (length (now (out .entry))))) × (now (out .exit) ≡ outputOf (arrival base link (now (burst .entry)) (length (now (out .entry)))) (now (out .entry))) ⌝ }
+{
+    let refusal = place_refusal(base, link, out.len());
+    if refusal != 0 {
+        return refused(base, refusal);
+    }
+    let n = base.n as usize;
+    match read(n, burst) {
+        Reading::Refused(number) => refused(base, number),
+        Reading::Message {
+            kind,
+            count: _,
+            start: _,
+        } => step(base, link - 1, kind, identifiers(body(n, burst)), out),
+    }
+}
