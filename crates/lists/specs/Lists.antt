@@ -6,6 +6,8 @@ use lib.Dec.{eqb, ltb, leb}
 use lib.ListN.{length, getD, replicate}
 use Rattle.lists.specs.Choice.{choose, and, or}
 pub mod Laws
+pub mod Order
+pub mod Places
 
 -- no element is zero
 unfoldable pub nonzero : List ℕ → Bool

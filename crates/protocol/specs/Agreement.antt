@@ -1,0 +1,11 @@
+-- to come
+pub mod Cases
+pub mod Views
+pub mod Suspects
+pub mod Calls
+pub mod Growth
+pub mod Invariant
+pub mod Prime
+pub mod Secondary
+pub mod NetSteps
+pub mod Kept
