@@ -1,10 +1,13 @@
 -- How many of the numbers 0 .. k - 1 pass a test: lower bounds from members that are known, upper bounds from what the members have in common.
 use Prim.Native.Nat.{ℕ, zero, suc, _+_, _≤_, _<_, zero-le}
-use mathlib.Core.Path.{_≡_, refl, ap, _∙_}
+use mathlib.Core.Path.{_≡_, refl, sym, ap, _∙_}
 use mathlib.Core.Logic.{_≢_, _⊎_, inl, inr}
 use mathlib.Core.Bool.{Bool, true, false, not}
 use native.Mathlib.Nat.{le-refl}
 use native.Mathlib.Omega.{arith}
+use borrow.Author.Tests.{eqb-true}
+use lib.Dec.{eqb}
+use Rattle.lists.specs.Choice.{or}
 use Rattle.counting.specs.Sums.{bit, sum}
 use Rattle.counting.specs.Sums.Laws.{sum-mono, sum-add, sum-same, sum-zeros, sum-cong, sum-term, sum-two}
 
@@ -29,6 +32,11 @@ pub bit-implies : (t : Bool) (k : ℕ) → (t ≡ true → 1 ≤ k) → bit t �
 unfolding bit
 bit-implies true k h = h refl
 bit-implies false k h = zero-le
+
+pub bit-or : (p q : Bool) → bit (or p q) ≤ bit p + bit q
+unfolding or bit
+bit-or true q = omega arith
+bit-or false q = omega arith
 
 -- ---- from below
 pub count-one : (k : ℕ) (p : ℕ → Bool) (a : ℕ) → a < k → p a ≡ true → 1 ≤ count k p
@@ -64,6 +72,10 @@ pub count-same : (k : ℕ) (p q : ℕ → Bool) → ((x : ℕ) → x < k → p x
 unfolding count
 count-same k p q h = sum-cong k (λ x. bit (p x)) (λ x. bit (q x)) (λ x l. ap bit (h x l))
 
+pub count-or : (k : ℕ) (p q : ℕ → Bool) → count k (λ x. or (p x) (q x)) ≤ count k p + count k q
+unfolding count
+count-or k p q = omega (arith, sum-mono k (λ x. bit (or (p x) (q x))) (λ x. bit (p x) + bit (q x)) (λ x l. bit-or (p x) (q x)), sum-add k (λ x. bit (p x)) (λ x. bit (q x)))
+
 -- each that passes adds one to a sum of other numbers
 pub count-below : (k : ℕ) (p : ℕ → Bool) (f : ℕ → ℕ) → ((x : ℕ) → x < k → p x ≡ true → 1 ≤ f x) → count k p ≤ sum k f
 unfolding count
@@ -86,6 +98,9 @@ count-once (suc k) p h = go (p k) refl (count-once k p (λ x y lx ly. h x y (ome
     go : (t : Bool) → p k ≡ t → sum k (λ x. bit (p x)) ≤ 1 → bit t + sum k (λ x. bit (p x)) ≤ 1
     go true e r = unfold bit in omega (arith, count-none k p (λ x l. others (p x) e x l refl))
     go false e r = unfold bit in omega arith
+
+pub count-equal : (k a : ℕ) → count k (eqb a) ≤ 1
+count-equal k a = count-once k (eqb a) (λ x y lx ly p q. sym (eqb-true a x p) ∙ eqb-true a y q)
 
 -- ---- who passes
 pub counted : (k : ℕ) (p : ℕ → Bool) → 1 ≤ count k p → (a : ℕ) × (a < k) × (p a ≡ true)

@@ -13,7 +13,7 @@ use Rattle.lists.specs.Choice.{and, or}
 use Rattle.counting.specs.Sums.{bit, sum, pairs}
 use Rattle.counting.specs.Parts.{_⊞_, sum-⊞, only, only-there, sum-only}
 use Rattle.counting.specs.Sums.Laws.{sum-same, sum-mono, sum-add, sum-cong, sum-zeros}
-use Rattle.counting.specs.Counts.{count, count-once, count-rest, count-below, TwoOf, counted-two}
+use Rattle.counting.specs.Counts.{count, bit-or, count-once, count-rest, count-below, TwoOf, counted-two}
 
 abbrev pub degree : ℕ → (ℕ → ℕ → ℕ) → ℕ → ℕ
 degree n F x = sum n (F x)
@@ -40,11 +40,6 @@ total-none n = sum-cong n (λ x. sum n (λ y. 0)) (λ x. 0) (λ x l. sum-zeros n
 -- ---- the link of a and b, seen from x to y
 unfoldable pub edge : ℕ → ℕ → ℕ → ℕ → Bool
 edge a b x y = or (and (eqb a x) (eqb b y)) (and (eqb a y) (eqb b x))
-
-bit-or : (p q : Bool) → bit (or p q) ≤ bit p + bit q
-unfolding or bit
-bit-or true q = omega arith
-bit-or false q = omega arith
 
 and-swap : (p q : Bool) → and p q ≡ and q p
 unfolding and

@@ -9,3 +9,4 @@ pub mod Prime
 pub mod Secondary
 pub mod NetSteps
 pub mod Kept
+pub mod Liveness

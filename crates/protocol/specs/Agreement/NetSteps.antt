@@ -1,14 +1,14 @@
 -- One step of the net: a call at one base, of which the argument asks no more than that a message handed over on a good link is in its sender's log.
 -- Which events lead to such steps, and how links carry them, is settled outside the argument.
 use Prim.Native.Nat.{ℕ, _<_}
-use mathlib.Core.Path.{_≡_, refl, sym, _∙_, subst₂}
-use mathlib.Core.Logic.{_≢_, _⊎_, inl, inr}
+use mathlib.Core.Path.{_≡_, sym, subst₂}
+use mathlib.Core.Logic.{_≢_, _⊎_}
 use mathlib.Core.Bool.{true}
 use mathlib.Core.List.{List, _++_, Memᴰ·append-left}
 use native.Mathlib.Decide.{ℕ-discrete}
 use lib.ListN.{length}
 use Rattle.frame.specs.Message.{Message}
-use Rattle.protocol.specs.Agreement.Views.{View, Said, Holds}
+use Rattle.protocol.specs.Agreement.Views.{View, Said}
 use Rattle.protocol.specs.Agreement.Calls.{Input, arrival, Grows, Call}
 use Rattle.protocol.specs.Agreement.Growth.{grows-not}
 use Rattle.protocol.specs.Agreement.Invariant.{State, broadcastAt}

@@ -1,22 +1,22 @@
 -- Safety of the prime check: a base that has n certified identifiers, one of them false, has more than t suspect pairs. An untouched base never certified
 -- the false one, and a base with good links that lacks nothing would have certified n + 1; so nearly every base adds a suspect pair or a faulty link.
 -- The test of the tallies' sum is not needed for this.
-use Prim.Native.Nat.{ℕ, _+_, _*_, _≤_, _<_}
-use mathlib.Core.Path.{_≡_, refl, sym, ap, _∙_}
+use Prim.Native.Nat.{ℕ, _+_, _≤_, _<_}
+use mathlib.Core.Path.{_≡_, sym, ap, _∙_}
 use mathlib.Core.Logic.{_≢_, _⊎_, inl, inr}
-use mathlib.Core.Bool.{Bool, true, false, not}
+use mathlib.Core.Bool.{true, false, not}
 use mathlib.Core.List.{List}
 use native.Mathlib.Decide.{ℕ-discrete}
 use native.Mathlib.Omega.{arith}
 use Rattle.lists.specs.Lists.{member}
-use Rattle.counting.specs.Sums.{sum, pairs}
+use Rattle.counting.specs.Sums.{pairs}
 use Rattle.counting.specs.Sums.Laws.{sum-term}
 use Rattle.counting.specs.Search.{each-or-one, met-or-not}
 use Rattle.counting.specs.Degrees.{degree, pairs-twice}
 use Rattle.counting.specs.Suspicion.{suspicion}
 use Rattle.counting.specs.Pigeonhole.{Injective, Met, pigeonhole-spare, pigeonhole-onto}
 use Rattle.protocol.specs.Agreement.Cases.{zero-or-more, true-or-false}
-use Rattle.protocol.specs.Agreement.Views.{View, Certified, lacks, suspect, Prime}
+use Rattle.protocol.specs.Agreement.Views.{View, Certified, lacks, suspect}
 use Rattle.protocol.specs.Agreement.Suspects.{lacks-other, lacks-not, suspect-self, suspect-symmetric, suspect-none, suspect-lacking}
 use Rattle.protocol.specs.Agreement.Invariant.{Premises}
 

@@ -1,6 +1,6 @@
 -- Safety of the secondary check: a list that nobody has decided reaches a tally of at most t. On a good link it can only stand as a Verify-Final, and
 -- whoever sent that held two Correct-Finals of a list that nobody decided, both on faulty links.
-use Prim.Native.Nat.{ℕ, _+_, _*_, _≤_, _<_}
+use Prim.Native.Nat.{ℕ, _≤_, _<_}
 use mathlib.Core.Path.{_≡_, refl, sym, ap, _∙_}
 use mathlib.Core.Logic.{_≢_, _⊎_, inl, inr}
 use mathlib.Core.Bool.{Bool, true, false}
@@ -11,8 +11,7 @@ use borrow.Author.Tests.{eq-eqb, ne-eqb}
 use lib.Dec.{eqb}
 use Rattle.lists.specs.Choice.{or}
 use Rattle.lists.specs.Choice.Laws.{or-true}
-use Rattle.counting.specs.Sums.{sum}
-use Rattle.counting.specs.Counts.{count, count-below}
+use Rattle.counting.specs.Counts.{count-below}
 use Rattle.counting.specs.Degrees.{degree}
 use Rattle.counting.specs.Spread.{Reached, spread}
 use Rattle.protocol.specs.Agreement.Cases.{zero-or-more, true-not-false}

@@ -2,7 +2,7 @@
 -- another way changes those laws alone. Bases are numbered from 0 here, so that sums run over 0 .. n - 1: x stands for base x + 1 of document 01.
 use Prim.Native.Nat.{ℕ, _+_, _*_, _≤_, _<_}
 use mathlib.Core.Path.{_≡_}
-use mathlib.Core.Bool.{Bool, true, false, not}
+use mathlib.Core.Bool.{Bool, true, not}
 use mathlib.Core.List.{List, List·Memᴰ}
 use lib.Dec.{eqb}
 use Rattle.lists.specs.Choice.{and, or}

@@ -1,10 +1,10 @@
 -- A step keeps deliveries: what arrives on a good link at a base that runs on is there afterwards. It is never discarded for good, since what would discard
 -- it is the same message, and a good link's list is never too full for a Verify that is new to it.
-use Prim.Native.Nat.{ℕ, _+_, _≤_, _<_, min}
+use Prim.Native.Nat.{ℕ, _≤_, _<_}
 use mathlib.Core.Path.{_≡_, refl, sym, ap, _∙_, subst}
-use mathlib.Core.Logic.{_≢_, _⊎_, inl, inr}
+use mathlib.Core.Logic.{_≢_, inl, inr}
 use mathlib.Core.Bool.{true, false}
-use mathlib.Core.List.{List, _++_}
+use mathlib.Core.List.{List}
 use native.Mathlib.Nat.{le-trans}
 use native.Mathlib.Omega.{arith}
 use lib.ListN.{length, getD, length-append, List·getD-append}
@@ -14,7 +14,7 @@ use Rattle.counting.specs.Pigeonhole.{Injective, Met, pigeonhole, pigeonhole-sp
 use Rattle.frame.specs.Message.{Message, announce, verify, correctFinal, verifyFinal}
 use Rattle.protocol.specs.Agreement.Cases.{true-or-false, true-not-false}
 use Rattle.protocol.specs.Agreement.Views.{View, Said, Holds, Certified}
-use Rattle.protocol.specs.Agreement.Calls.{Input, arrival, Taken}
+use Rattle.protocol.specs.Agreement.Calls.{arrival, Taken}
 use Rattle.protocol.specs.Agreement.Growth.{Delivered, delivered-grows}
 use Rattle.protocol.specs.Agreement.Invariant.{State, Invariant, broadcastAt}
 use Rattle.protocol.specs.Agreement.NetSteps.{NetStep, each-base, base-grows}

@@ -1,7 +1,7 @@
 -- A step keeps the final lists true: a base that turns prime has certified the true identifiers and no others, and a base that turns secondary takes a list
 -- that somebody decided before, which is the true one. So the first base to stop is a prime one.
-use Prim.Native.Nat.{ℕ, _+_, _≤_, _<_}
-use mathlib.Core.Path.{_≡_, refl, sym, ap, _∙_, subst}
+use Prim.Native.Nat.{ℕ, _≤_, _<_}
+use mathlib.Core.Path.{_≡_, refl, sym, _∙_, subst}
 use mathlib.Core.Logic.{_≢_, _⊎_, inl, inr}
 use mathlib.Core.Bool.{Bool, true, false}
 use mathlib.Core.List.{List, List-discrete}
@@ -12,7 +12,7 @@ use Rattle.lists.specs.Lists.Order.{ascending-unique}
 use Rattle.counting.specs.Search.{each-or-one}
 use Rattle.counting.specs.Pigeonhole.{Injective, Met}
 use Rattle.frame.specs.Message.{Message, announce, verify, correctFinal, verifyFinal}
-use Rattle.protocol.specs.Agreement.Cases.{running-or-stopped, prime-or-secondary, true-or-false, true-not-false}
+use Rattle.protocol.specs.Agreement.Cases.{running-or-stopped, prime-or-secondary, true-not-false}
 use Rattle.protocol.specs.Agreement.Views.{View, Said, Holds, Certified, tallyOf, Prime, Secondary, Lists}
 use Rattle.protocol.specs.Agreement.Calls.{Grows, SoundView, Stopping, before, as-prime, as-secondary}
 use Rattle.protocol.specs.Agreement.Growth.{certified-grows, corrects-grow}
