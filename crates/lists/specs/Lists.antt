@@ -8,6 +8,9 @@ use Rattle.lists.specs.Choice.{choose, and, or}
 pub mod Laws
 pub mod Order
 pub mod Places
+pub mod Sets
+pub mod Zeros
+pub mod Sorted
 
 -- no element is zero
 unfoldable pub nonzero : List ℕ → Bool

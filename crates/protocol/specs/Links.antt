@@ -8,6 +8,7 @@ use Rattle.lists.specs.Choice.{and, or}
 use Rattle.lists.specs.Lists.{member, sameList}
 use Rattle.counting.specs.Sums.{bit}
 use Rattle.protocol.specs.declared.Link.{Link}
+pub mod Laws
 
 -- the link that is read past the end of an array
 abbrev pub noLink : Link

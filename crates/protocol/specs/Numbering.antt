@@ -2,6 +2,7 @@
 use Prim.Native.Nat.{ℕ, _+_, _-_}
 use lib.Dec.{ltb}
 use Rattle.lists.specs.Choice.{choose}
+pub mod Laws
 
 -- the base at the end of link k of base b
 unfoldable pub baseAt : ℕ → ℕ → ℕ

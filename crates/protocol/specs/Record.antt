@@ -10,6 +10,9 @@ use Rattle.counting.specs.Sums.{bit, sum, pairs}
 use Rattle.protocol.specs.declared.Link.{Link}
 use Rattle.protocol.specs.declared.Base.{Base}
 use Rattle.protocol.specs.Links.{noLink, announces, holdsVerify, holdsCorrect, holdsList}
+pub mod Memory
+pub mod Laws
+pub mod Announced
 
 unfoldable pub linkAt : Base → ℕ → Link
 linkAt b i = getD (b .links) i noLink

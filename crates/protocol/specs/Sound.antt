@@ -13,6 +13,11 @@ use Rattle.protocol.specs.declared.Link.{Link}
 use Rattle.protocol.specs.declared.Base.{Base}
 use Rattle.protocol.specs.Links.{verifiesOf, used}
 use Rattle.protocol.specs.Record.{linkAt, certified}
+pub mod Laws
+pub mod Idle
+pub mod Changes
+pub mod Running
+pub mod Kept
 
 -- n identifiers as kinds 3 and 4 demand, and "unused places zero"
 unfoldable pub listSound : ℕ → List ℕ → Bool

@@ -20,6 +20,15 @@ use Rattle.protocol.specs.declared.Leader.the-variants as leads
 use Rattle.protocol.specs.Links.{announces, holdsVerify, full}
 use Rattle.protocol.specs.Record.{linkAt, certified, tallySum, suspects, listTally, correctCount, finalList}
 use Rattle.protocol.specs.Sound.{idle, stopped, recordRefusal}
+pub mod Cases
+pub mod Laws
+pub mod Sizes
+pub mod Checks
+pub mod First
+pub mod Output
+pub mod Decided
+pub mod Memory
+pub mod Certified
 
 -- "Its answer is accepted or discarded", or the call is turned down by a number
 pub data Answer : Type 0 where

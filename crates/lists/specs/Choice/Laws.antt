@@ -35,6 +35,10 @@ unfolding and
 and-true true b e = (refl, e)
 and-true false b e = absurd (let z : _≡_ {A = ℕ} 0 1 = cc in omega arith)
 
+pub and-both : {a b : Bool} → a ≡ true → b ≡ true → and a b ≡ true
+unfolding and
+and-both p q = rw (p, q)
+
 pub and-no : (a : Bool) → and a false ≡ false
 unfolding and
 and-no true = refl
@@ -71,6 +75,11 @@ first-none {a} b e = choose-yes b a (eq-eqb a 0 e)
 pub first-given : {a : ℕ} (b : ℕ) → (a ≡ 0 → ⊥) → first a b ≡ a
 unfolding first
 first-given {a} b e = choose-no b a (ne-eqb a 0 e)
+
+-- a last check that gives none
+pub first-last : (a : ℕ) {b : ℕ} → b ≡ 0 → first a b ≡ a
+unfolding first
+first-last a {b} e = choose-ind (λ (r : ℕ). r ≡ a) (eqb a 0) (λ p. e ∙ sym (eqb-true a 0 p)) (λ _. refl)
 
 pub first-passed : (a b : ℕ) → first a b ≡ 0 → (a ≡ 0) × (b ≡ 0)
 unfolding first choose
