@@ -10,3 +10,4 @@ pub mod Secondary
 pub mod NetSteps
 pub mod Kept
 pub mod Liveness
+pub mod Observers
