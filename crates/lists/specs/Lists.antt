@@ -8,6 +8,7 @@ use Rattle.lists.specs.Choice.{choose, and, or}
 pub mod Laws
 pub mod Order
 pub mod Places
+pub mod Same
 pub mod Sets
 pub mod Zeros
 pub mod Sorted

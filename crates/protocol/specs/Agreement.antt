@@ -11,3 +11,5 @@ pub mod NetSteps
 pub mod Kept
 pub mod Liveness
 pub mod Observers
+pub mod Storing
+pub mod Accepting

@@ -3,7 +3,7 @@ use Prim.Native.Nat.{ℕ, _<_}
 use mathlib.Core.Path.{_≡_, refl, sym, ap₂, _∙_}
 use mathlib.Core.Logic.{_⊎_, inl, inr}
 use mathlib.Core.Bool.{Bool, true, false}
-use mathlib.Core.List.{List, [], _∷_}
+use mathlib.Core.List.{List, [], _∷_, _++_}
 use native.Mathlib.Omega.{arith}
 use borrow.Author.Tests.{ltb-true, eqb-true, eq-eqb}
 use lib.Dec.{eqb, ltb}
@@ -31,6 +31,22 @@ member-none z e = let k : _≡_ {A = ℕ} 0 1 = cc in omega arith
 pub member-cases : (z x : ℕ) (l : List ℕ) → member z (x ∷ l) ≡ true → (x ≡ z) ⊎ (member z l ≡ true)
 unfolding member
 member-cases z x l e = elim (or-true (eqb x z) (member z l) e) [ inl p ↦ inl (eqb-true x z p) | inr p ↦ inr p ]
+
+-- one more behind
+pub member-front : (z : ℕ) (l : List ℕ) (x : ℕ) → member z l ≡ true → member z (l ++ (x ∷ [])) ≡ true
+member-front z [] x h = absurd (member-none z h)
+member-front z (y ∷ l) x h = elim (member-cases z y l h) [ inl e ↦ rw e (member-head z (l ++ (x ∷ []))) | inr e ↦ member-tail z y (l ++ (x ∷ [])) (member-front z l x e) ]
+
+pub member-last : (l : List ℕ) (x : ℕ) → member x (l ++ (x ∷ [])) ≡ true
+member-last [] x = member-head x []
+member-last (y ∷ l) x = member-tail x y (l ++ (x ∷ [])) (member-last l x)
+
+pub member-snoc-cases : (z : ℕ) (l : List ℕ) (x : ℕ) → member z (l ++ (x ∷ [])) ≡ true → (member z l ≡ true) ⊎ (x ≡ z)
+member-snoc-cases z [] x h = elim (member-cases z x [] h) [ inl e ↦ inr e | inr e ↦ inl e ]
+member-snoc-cases z (y ∷ l) x h = elim (member-cases z y (l ++ (x ∷ [])) h) [
+  | inl e ↦ inl (rw e (member-head z l))
+  | inr e ↦ elim (member-snoc-cases z l x e) [ inl k ↦ inl (member-tail z y l k) | inr k ↦ inr k ]
+]
 
 -- ---- an ascending list
 pub ascending-rest : (x : ℕ) (l : List ℕ) → ascending (x ∷ l) ≡ true → ascending l ≡ true

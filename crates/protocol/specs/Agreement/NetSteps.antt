@@ -9,7 +9,7 @@ use native.Mathlib.Decide.{ℕ-discrete}
 use lib.ListN.{length}
 use Rattle.frame.specs.Message.{Message}
 use Rattle.protocol.specs.Agreement.Views.{View, Said}
-use Rattle.protocol.specs.Agreement.Calls.{Input, arrival, Grows, Call}
+use Rattle.protocol.specs.Agreement.Calls.{Input, arrival, SoundView, Grows, Call}
 use Rattle.protocol.specs.Agreement.Growth.{grows-not}
 use Rattle.protocol.specs.Agreement.Invariant.{State, broadcastAt}
 
@@ -21,6 +21,7 @@ pub record NetStep (n t : ℕ) (faulty : ℕ → ℕ → ℕ) (id : ℕ → ℕ)
   pub left : View
   pub says : List Message
   pub call : Call n t me (id me) input (N .base me) left says
+  pub sound : SoundView n me (id me) left
   -- M is N with that base and its log replaced
   pub base-here : M .base me ≡ left
   pub log-here : M .log me ≡ N .log me ++ says

@@ -13,6 +13,8 @@ pub mod Places
 pub mod Counts
 pub mod Names
 pub mod Checks
+pub mod LinkChanges
+pub mod Stores
 
 -- the place, from 0, of base me's link to base x; both bases are numbered from 0 here
 unfoldable pub placeOf : ℕ → ℕ → ℕ

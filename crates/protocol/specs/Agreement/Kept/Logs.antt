@@ -27,7 +27,7 @@ module _ (n t : ℕ) (faulty : ℕ → ℕ → ℕ) (id : ℕ → ℕ) (truth : 
 
   -- ---- one base
   pub sound-kept : (x : ℕ) → x < n → SoundView n x (id x) (M .base x)
-  sound-kept = each (λ x b log. x < n → SoundView n x (id x) b) (λ l. S .call .sound) (λ x ne l. I .sound x l)
+  sound-kept = each (λ x b log. x < n → SoundView n x (id x) b) (λ l. S .sound) (λ x ne l. I .sound x l)
 
   pub settled-kept : (x : ℕ) → x < n → Settled n t x (M .base x)
   settled-kept = each (λ x b log. x < n → Settled n t x b) (λ l. S .call .settled) (λ x ne l. I .settled x l)
