@@ -32,19 +32,19 @@ pub data Ending (n t me : ℕ) (m : Message) (a : View) : ℕ → List ℕ → L
 unfoldable pub closing : View → ℕ → ℕ → List ℕ → View
 closing a state sent final = record { state = state; sent = sent; final = final; named = a .named; verifies = a .verifies; correct = a .correct; vote = a .vote }
 
-closing-prime : (n t me : ℕ) (a : View) (state sent : ℕ) (final : List ℕ) → Prime n t me (closing a state sent final) → Prime n t me a
+pub closing-prime : (n t me : ℕ) (a : View) (state sent : ℕ) (final : List ℕ) → Prime n t me (closing a state sent final) → Prime n t me a
 unfolding closing suspect lacks
 closing-prime n t me a state sent final P = record { all-named = P .all-named; tallies = P .tallies; few-suspects = P .few-suspects }
 
-prime-closing : (n t me : ℕ) (a : View) (state sent : ℕ) (final : List ℕ) → Prime n t me a → Prime n t me (closing a state sent final)
+pub prime-closing : (n t me : ℕ) (a : View) (state sent : ℕ) (final : List ℕ) → Prime n t me a → Prime n t me (closing a state sent final)
 unfolding closing suspect lacks
 prime-closing n t me a state sent final P = record { all-named = P .all-named; tallies = P .tallies; few-suspects = P .few-suspects }
 
-closing-secondary : (n t : ℕ) (a : View) (state sent : ℕ) (final v : List ℕ) → Secondary n t (closing a state sent final) v → Secondary n t a v
+pub closing-secondary : (n t : ℕ) (a : View) (state sent : ℕ) (final v : List ℕ) → Secondary n t (closing a state sent final) v → Secondary n t a v
 unfolding closing corrects tallyOf holdsOf
 closing-secondary n t a state sent final v S = record { tally = S .tally; two = S .two }
 
-secondary-closing : (n t : ℕ) (a : View) (state sent : ℕ) (final v : List ℕ) → Secondary n t a v → Secondary n t (closing a state sent final) v
+pub secondary-closing : (n t : ℕ) (a : View) (state sent : ℕ) (final v : List ℕ) → Secondary n t a v → Secondary n t (closing a state sent final) v
 unfolding closing corrects tallyOf holdsOf
 secondary-closing n t a state sent final v S = record { tally = S .tally; two = S .two }
 

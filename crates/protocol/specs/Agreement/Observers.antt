@@ -15,6 +15,8 @@ pub mod Names
 pub mod Checks
 pub mod LinkChanges
 pub mod Stores
+pub mod Endings
+pub mod Messages
 
 -- the place, from 0, of base me's link to base x; both bases are numbered from 0 here
 unfoldable pub placeOf : ℕ → ℕ → ℕ
