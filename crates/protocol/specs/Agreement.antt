@@ -13,3 +13,4 @@ pub mod Liveness
 pub mod Observers
 pub mod Storing
 pub mod Accepting
+pub mod Starting

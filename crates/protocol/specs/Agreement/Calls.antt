@@ -24,7 +24,7 @@ pub record SoundView (n me own : ℕ) (b : View) : Type 0 where
   -- there is no link from a base to itself
   pub own-correct : (v : List ℕ) → b .correct me v ≡ false
   pub own-vote : (v : List ℕ) → b .vote me v ≡ false
-  pub verifies-once : (x : ℕ) → distinct (b .verifies x) ≡ true
+  pub verifies-once : (x : ℕ) → x < n → distinct (b .verifies x) ≡ true
 
 -- a running base has acted on all that it holds: both checks fail of it as it stands, and with two Correct-Finals of one list it has sent a Verify-Final
 pub record Settled (n t me : ℕ) (b : View) : Type 0 where

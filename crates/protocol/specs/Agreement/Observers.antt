@@ -17,6 +17,7 @@ pub mod LinkChanges
 pub mod Stores
 pub mod Endings
 pub mod Messages
+pub mod Steps
 
 -- the place, from 0, of base me's link to base x; both bases are numbered from 0 here
 unfoldable pub placeOf : ℕ → ℕ → ℕ

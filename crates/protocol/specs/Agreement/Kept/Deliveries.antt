@@ -40,7 +40,7 @@ module _ (n t : ℕ) (faulty : ℕ → ℕ → ℕ) (id : ℕ → ℕ) (truth : 
 
     verifies-apart : Injective (length (b .verifies x)) verify-at
     unfolding verify-at
-    verifies-apart u w lu lw e = distinct-places (b .verifies x) (I .sound me (S .inside) .verifies-once x) u w lu lw e
+    verifies-apart u w lu lw e = distinct-places (b .verifies x) (I .sound me (S .inside) .verifies-once x x-in) u w lu lw e
 
     verifies-certified : (k : ℕ) → k < length (b .verifies x) → Met n (N .base x .named) (verify-at k)
     unfolding verify-at
