@@ -10,9 +10,9 @@ use native.Mathlib.Decide.{ℕ-discrete}
 use native.Mathlib.Omega.{arith}
 use Rattle.counting.specs.Counts.{count-none}
 use Rattle.frame.specs.Message.{Message, announce, verify, correctFinal, verifyFinal}
-use Rattle.protocol.specs.Agreement.Cases.{impossible}
+use Rattle.protocol.specs.Agreement.Cases.{zero-or-more, true-or-false, impossible}
 use Rattle.protocol.specs.Agreement.Views.{View, Said, Holds, corrects, Prime, Secondary}
-use Rattle.protocol.specs.Agreement.Calls.{Input, start, arrival, Grows, Settled, Full, Taken, Backed, Stopping, before, as-prime, as-secondary, Call}
+use Rattle.protocol.specs.Agreement.Calls.{Input, start, arrival, Grows, SoundView, Settled, Full, Taken, Backed, Stopping, before, as-prime, as-secondary, Call}
 use Rattle.protocol.specs.Agreement.Growth.{grows-then, backed-grows}
 use Rattle.protocol.specs.Agreement.Accepting.{closing}
 
@@ -20,8 +20,7 @@ use Rattle.protocol.specs.Agreement.Accepting.{closing}
 pub record Blank (n me : ℕ) (b : View) : Type 0 where
   pub idle : b .state ≡ 0
   pub unsent : b .sent ≡ 0
-  pub names : (x : ℕ) → x < n → x ≢ me → b .named x ≡ 0
-  pub corrects : (x : ℕ) (v : List ℕ) → x < n → b .correct x v ≡ false
+  pub nothing : (x : ℕ) (m : Message) → x < n → x ≢ me → Holds b x m → ⊥
 
 -- the base after its start
 abbrev pub started : View → View
@@ -35,31 +34,40 @@ started-sent : (b : View) → started b .sent ≡ b .sent
 unfolding closing
 started-sent b = refl
 
-module _ (n t me own : ℕ) (two : 2 ≤ n) (me-in : me < n) (above : 1 ≤ own) (b : View) (own-named : b .named me ≡ own) (B : Blank n me b) where
+module _ (n t me own : ℕ) (two : 2 ≤ n) (me-in : me < n) (above : 1 ≤ own) (b : View) (sound : SoundView n me own b) (B : Blank n me b) where
   abbrev says : List Message
   says = announce own ∷ (verify own ∷ [])
 
+  unnamed : (x : ℕ) → x < n → x ≢ me → b .named x ≡ 0
+  unnamed x l ne = elim (zero-or-more (b .named x)) [ inl e ↦ e | inr h ↦ absurd (B .nothing x (announce (b .named x)) l ne (h, refl)) ]
+
+  uncorrected : (x : ℕ) (v : List ℕ) → x < n → b .correct x v ≡ false
+  uncorrected x v l = elim (true-or-false (b .correct x v)) [
+    | inr e ↦ e
+    | inl h ↦ elim (ℕ-discrete x me) [ yes e ↦ ap (λ z. b .correct z v) e ∙ sound .own-correct v | no e ↦ absurd (B .nothing x (correctFinal v) l e h) ]
+  ]
+
   no-corrects : (v : List ℕ) → corrects n (started b) v ≡ 0
   unfolding corrects closing
-  no-corrects v = count-none n (λ x. b .correct x v) (λ x l. B .corrects x v l)
+  no-corrects v = count-none n (λ x. b .correct x v) (λ x l. uncorrected x v l)
 
   -- there is another base, and it has no name yet
   not-prime : Prime n t me (started b) → ⊥
   unfolding closing
   not-prime P = elim (ℕ-discrete me 0) [
-    | yes e ↦ omega (arith, P .all-named 1 (omega arith), B .names 1 (omega arith) (omega arith))
-    | no e ↦ omega (arith, P .all-named 0 (omega arith), B .names 0 (omega arith) (λ q. e (sym q)))
+    | yes e ↦ omega (arith, P .all-named 1 (omega arith), unnamed 1 (omega arith) (omega arith))
+    | no e ↦ omega (arith, P .all-named 0 (omega arith), unnamed 0 (omega arith) (λ q. e (sym q)))
   ]
 
   only-own : (x : ℕ) → x < n → 1 ≤ b .named x → b .named x ≡ own
-  only-own x l h = elim (ℕ-discrete x me) [ yes e ↦ ap (b .named) e ∙ own-named | no e ↦ absurd (omega (arith, B .names x l e)) ]
+  only-own x l h = elim (ℕ-discrete x me) [ yes e ↦ ap (b .named) e ∙ sound .own-named | no e ↦ absurd (omega (arith, unnamed x l e)) ]
 
   no-vote : (v : List ℕ) → Said (verifyFinal v) says → ⊥
   no-vote v h = elim (List·Memᴰ·cases-cons h) [ inl e ↦ impossible (cc) | inr k ↦ (let e = List·Memᴰ·eq-of-singleton k in impossible (cc)) ]
 
   start-backed : (m : Message) → (m ≡ announce own) ⊎ Said m (verify own ∷ []) → Backed n own (started b) m
   start-backed m (inl e) = subst (Backed n own (started b)) (sym e) refl
-  start-backed m (inr h) = subst (Backed n own (started b)) (sym (List·Memᴰ·eq-of-singleton h)) (above, (me, me-in, (unfold closing in sym own-named)))
+  start-backed m (inr h) = subst (Backed n own (started b)) (sym (List·Memᴰ·eq-of-singleton h)) (above, (me, me-in, (unfold closing in sym (sound .own-named))))
 
   start-holds : (x : ℕ) (m : Message) → Holds (started b) x m → Holds b x m
   unfolding closing

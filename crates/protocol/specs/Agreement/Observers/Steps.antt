@@ -12,11 +12,11 @@ use lib.Dec.{eqb}
 use lib.ListN.{length, take}
 use Rattle.limits.specs.Limits.{mostLinks}
 use Rattle.lists.specs.Choice.{and}
-use Rattle.lists.specs.Lists.{distinct, sameList}
-use Rattle.frame.specs.Message.{Message, announce, verify, Valid}
+use Rattle.lists.specs.Lists.{member, distinct, sameList}
+use Rattle.frame.specs.Message.{Message, announce, verify, correctFinal, verifyFinal, Valid}
 use Rattle.protocol.specs.declared.Link.{Link}
 use Rattle.protocol.specs.declared.Base.{Base}
-use Rattle.protocol.specs.Links.{noLink, verifiesOf, holdsVector, holdsCorrect, holdsVerifyFinal}
+use Rattle.protocol.specs.Links.{noLink, verifiesOf, holdsVerify, holdsVector, holdsCorrect, holdsVerifyFinal}
 use Rattle.protocol.specs.Record.{linkAt, finalList}
 use Rattle.protocol.specs.Record.Memory.{Sized}
 use Rattle.protocol.specs.Sound.{idle, stopped, recordRefusal}
@@ -25,8 +25,8 @@ use Rattle.protocol.specs.Sound.Running.{Runs, begun-runs, admitted-runs
 use Rattle.protocol.specs.Steps.{Done, discards, accepts, withState, onMessage, begins, startStep, arrivalStep}
 use Rattle.protocol.specs.Steps.Cases.{begun, afterStart, start-step-cases, arrival-step-cases}
 use Rattle.protocol.specs.Steps.Memory.{begun-sized}
-use Rattle.protocol.specs.Agreement.Cases.{impossible}
-use Rattle.protocol.specs.Agreement.Views.{View}
+use Rattle.protocol.specs.Agreement.Cases.{true-not-false, impossible}
+use Rattle.protocol.specs.Agreement.Views.{View, Holds}
 use Rattle.protocol.specs.Agreement.Calls.{Input, start, arrival, SoundView, Settled, Call}
 use Rattle.protocol.specs.Agreement.Accepting.{closing}
 use Rattle.protocol.specs.Agreement.Starting.{Blank, started, begins-call, start-then-call}
@@ -34,7 +34,7 @@ use Rattle.protocol.specs.Agreement.Observers.{placeOf, linkFor, view}
 use Rattle.protocol.specs.Agreement.Observers.Places.{place-inside, link-own, link-other}
 use Rattle.protocol.specs.Agreement.Observers.Counts.{Inside}
 use Rattle.protocol.specs.Agreement.Observers.Names.{named-own, named-other, names-apart}
-use Rattle.protocol.specs.Agreement.Observers.Stores.{seen-correct}
+use Rattle.protocol.specs.Agreement.Observers.Stores.{seen-verify, seen-correct, seen-vote}
 use Rattle.protocol.specs.Agreement.Observers.Endings.{unchanged-call}
 use Rattle.protocol.specs.Agreement.Observers.Messages.{message-call}
 
@@ -42,6 +42,10 @@ use Rattle.protocol.specs.Agreement.Observers.Messages.{message-call}
 none-held : (n kind : ℕ) (l : Link) (v : List ℕ) → l .held ≢ kind → holdsVector n kind l v ≡ false
 unfolding holdsVector and
 none-held n kind l v ne = ap (λ t. and t (sameList (take n (l .list)) v)) (ne-eqb (l .held) kind ne)
+
+none-verified : (l : Link) (g : ℕ) → l .«verify_count» ≡ 0 → holdsVerify l g ≡ false
+unfolding holdsVerify verifiesOf member
+none-verified l g e = ap (λ k. member g (take k (l .verifies))) e
 
 module _ (me : ℕ) (b : Base) (inside : me < b .n) (e : recordRefusal b ≡ 0) where
   A : Admitted b
@@ -84,18 +88,17 @@ module _ (me : ℕ) (b : Base) (inside : me < b .n) (e : recordRefusal b ≡ 0) 
   blank-seen off = record {
     idle = unfold idle view in eqb-true (b .state) 0 off;
     unsent = unfold view in idle-unsent b (parts .idle) off;
-    names = λ x l ne. named-other me b x ne ∙ empty x l ne .announce;
-    corrects = corrects;
+    nothing = nothing;
   }
     where
       empty : (x : ℕ) → x < b .n → x ≢ me → EmptyParts (linkAt b (placeOf me x))
       empty x l ne = idle-place b (parts .idle) off (placeOf me x) (omega (arith, place-inside me x (b .n) inside l ne, A .net .most))
 
-      corrects : (x : ℕ) (v : List ℕ) → x < b .n → view me b .correct x v ≡ false
-      corrects x v l = unfold view holdsCorrect in elim (ℕ-discrete x me) [
-        | yes q ↦ ap (λ z. holdsVector (b .n) 3 (linkFor me b z) v) q ∙ ap (λ (k : Link). holdsVector (b .n) 3 k v) (link-own me b) ∙ none-held (b .n) 3 noLink v (omega arith)
-        | no q ↦ ap (λ (k : Link). holdsVector (b .n) 3 k v) (link-other me b x q) ∙ none-held (b .n) 3 (linkAt b (placeOf me x)) v (omega (arith, empty x l q .held))
-      ]
+      nothing : (x : ℕ) (m : Message) → x < b .n → x ≢ me → Holds (view me b) x m → ⊥
+      nothing x (announce g) l ne h = omega (arith, h .0, h .1, named-other me b x ne, empty x l ne .announce)
+      nothing x (verify g) l ne h = true-not-false (sym (seen-verify me b x ne g) ∙ h) (none-verified (linkAt b (placeOf me x)) g (empty x l ne .count))
+      nothing x (correctFinal v) l ne h = true-not-false (sym (seen-correct me b x ne v) ∙ h) (unfold holdsCorrect in none-held (b .n) 3 (linkAt b (placeOf me x)) v (omega (arith, empty x l ne .held)))
+      nothing x (verifyFinal v) l ne h = true-not-false (sym (seen-vote me b x ne v) ∙ h) (unfold holdsVerifyFinal in none-held (b .n) 4 (linkAt b (placeOf me x)) v (omega (arith, empty x l ne .held)))
 
   -- ---- the steps
   begun-view : view me (begun b) ≡ started (view me b)
@@ -104,7 +107,7 @@ module _ (me : ℕ) (b : Base) (inside : me < b .n) (e : recordRefusal b ≡ 0) 
 
   begin-call : idle b ≡ true → Call (b .n) (b .t) me (b .own) start (view me b) (view me (begun b)) (announce (b .own) ∷ (verify (b .own) ∷ []))
   begin-call off = subst (λ z. Call (b .n) (b .t) me (b .own) start (view me b) z (announce (b .own) ∷ (verify (b .own) ∷ []))) (sym begun-view)
-      (begins-call (b .n) (b .t) me (b .own) (A .net .least) inside (A .own) (view me b) (named-own me b) (blank-seen off))
+      (begins-call (b .n) (b .t) me (b .own) (A .net .least) inside (A .own) (view me b) sound-seen (blank-seen off))
 
   on : idle b ≡ false → 1 ≤ view me b .state
   unfolding idle view
