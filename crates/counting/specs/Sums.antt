@@ -3,6 +3,7 @@ use Prim.Native.Nat.{ℕ, zero, suc, _+_}
 use mathlib.Core.Bool.{Bool, true, false}
 use Rattle.lists.specs.Choice.{and}
 pub mod Laws
+pub mod Loops
 pub mod Bounds
 
 unfoldable pub bit : Bool → ℕ

@@ -22,13 +22,18 @@ use Rattle.protocol.specs.Record.{linkAt, certified, tallySum, suspects,
 use Rattle.protocol.specs.Sound.{idle, stopped, recordRefusal}
 pub mod Cases
 pub mod Laws
-pub mod Sizes
 pub mod Checks
-pub mod First
-pub mod Output
+pub mod Certified
 pub mod Decided
 pub mod Memory
-pub mod Certified
+pub mod Sizes
+pub mod First
+pub mod Output
+pub mod Answers
+pub mod Broadcasts
+pub mod Calls
+pub mod Life
+pub mod Leading
 
 -- "Its answer is accepted or discarded", or the call is turned down by a number
 pub data Answer : Type 0 where

@@ -29,11 +29,24 @@ unfolding choose
 choose-ind P true f g = f refl
 choose-ind P false f g = g refl
 
+-- ---- a test has one value
+pub clash : {A : Type 0} {t : Bool} → t ≡ true → t ≡ false → A
+clash p q = absurd (let z : _≡_ {A = ℕ} 0 1 = cc in omega arith)
+
 -- ---- and, or
 pub and-true : (a b : Bool) → and a b ≡ true → (a ≡ true) × (b ≡ true)
 unfolding and
 and-true true b e = (refl, e)
 and-true false b e = absurd (let z : _≡_ {A = ℕ} 0 1 = cc in omega arith)
+
+-- a chain of tests, each decided before the next is looked at
+pub and-fails : {a : Bool} (b : Bool) → a ≡ false → false ≡ and a b
+unfolding and
+and-fails b e = rw e
+
+pub and-goes-on : {a x b : Bool} → a ≡ true → x ≡ b → x ≡ and a b
+unfolding and
+and-goes-on e p = rw e p
 
 pub and-both : {a b : Bool} → a ≡ true → b ≡ true → and a b ≡ true
 unfolding and

@@ -5,24 +5,85 @@ use mathlib.Core.List.{List, [], _∷_, _++_, append-assoc}
 use Prim.Native.Nat.{ℕ, zero, suc, _+_, _-_, _<_, _≤_}
 use native.Mathlib.Omega.{arith}
 use native.Mathlib.Numerals.{add-one}
-use borrow.Author.Tests.{lt-ltb, le-ltb, ne-eqb}
+use borrow.Author.Tests.{lt-ltb, le-ltb, eq-eqb, ne-eqb}
+use lib.Dec.{eqb}
 use lib.ListN.{length, take, drop, getD, set, replicate, length-append, length-drop, length-replicate, drop-of-length-le}
 use lib.Seq.{drop-cons, take-at, set-at}
-use Rattle.lists.specs.Choice.{and}
-use Rattle.lists.specs.Lists.{nonzero, ascending, padTo}
+use Rattle.lists.specs.Choice.{and, or}
+use Rattle.lists.specs.Lists.{nonzero, ascending, member, distinct, zeros, sameList, padTo}
 
--- ---- nonzero
-pub nonzero-found : (l : List ℕ) (i : ℕ) → i < length l → getD l i 0 ≡ 0 → nonzero (drop i l) ≡ false
-unfolding nonzero and
-nonzero-found l i h e = rw (drop-cons l i 0 h, e)
+-- ---- member
+pub member-found : (x : ℕ) (l : List ℕ) (i : ℕ) → i < length l → getD l i 0 ≡ x → member x (drop i l) ≡ true
+unfolding member or
+member-found x l i h e = rw (drop-cons l i 0 h, eq-eqb (getD l i 0) x e)
 
-pub nonzero-next : (l : List ℕ) (i : ℕ) → i < length l → (getD l i 0 ≡ 0 → ⊥) → nonzero (drop i l) ≡ nonzero (drop (i + 1) l)
-unfolding nonzero and
-nonzero-next l i h e = rw (drop-cons l i 0 h, ne-eqb (getD l i 0) 0 e, add-one)
+pub member-next : (x : ℕ) (l : List ℕ) (i : ℕ) → i < length l → (getD l i 0 ≡ x → ⊥) → member x (drop i l) ≡ member x (drop (i + 1) l)
+unfolding member or
+member-next x l i h e = rw (drop-cons l i 0 h, ne-eqb (getD l i 0) x e, add-one)
 
-pub nonzero-end : (l : List ℕ) (i : ℕ) → length l ≤ i → nonzero (drop i l) ≡ true
-unfolding nonzero
-nonzero-end l i h = rw (drop-of-length-le l {i = i} h)
+pub member-end : (x : ℕ) (l : List ℕ) (i : ℕ) → length l ≤ i → member x (drop i l) ≡ false
+unfolding member
+member-end x l i h = rw (drop-of-length-le l {i = i} h)
+
+-- a list with no zero is one that zero is no member of
+pub nonzero-member : (l : List ℕ) → nonzero l ≡ not (member 0 l)
+unfolding nonzero member and or
+nonzero-member [] = refl
+nonzero-member (x ∷ xs) = go (eqb x 0) (nonzero-member xs)
+  where
+    go : (t : Bool) → nonzero xs ≡ not (member 0 xs) → and (not t) (nonzero xs) ≡ not (or t (member 0 xs))
+    go true e = refl
+    go false e = e
+
+-- ---- distinct
+pub distinct-broken : (l : List ℕ) (i : ℕ) → i < length l → member (getD l i 0) (drop (i + 1) l) ≡ true → distinct (drop i l) ≡ false
+unfolding distinct and
+distinct-broken l i h e = rw (drop-cons l i 0 h, ← (add-one i), e)
+
+pub distinct-next : (l : List ℕ) (i : ℕ) → i < length l → member (getD l i 0) (drop (i + 1) l) ≡ false → distinct (drop i l) ≡ distinct (drop (i + 1) l)
+unfolding distinct and
+distinct-next l i h e = ap distinct (drop-cons l i 0 h) ∙ rw (← (add-one i), e) (rw add-one)
+
+pub distinct-end : (l : List ℕ) (i : ℕ) → length l ≤ i → distinct (drop i l) ≡ true
+unfolding distinct
+distinct-end l i h = rw (drop-of-length-le l {i = i} h)
+
+-- ---- zeros
+pub zeros-broken : (l : List ℕ) (i : ℕ) → i < length l → (getD l i 0 ≡ 0 → ⊥) → zeros (drop i l) ≡ false
+unfolding zeros and
+zeros-broken l i h e = rw (drop-cons l i 0 h, ne-eqb (getD l i 0) 0 e)
+
+pub zeros-next : (l : List ℕ) (i : ℕ) → i < length l → getD l i 0 ≡ 0 → zeros (drop i l) ≡ zeros (drop (i + 1) l)
+unfolding zeros and
+zeros-next l i h e = rw (drop-cons l i 0 h, eq-eqb (getD l i 0) 0 e, add-one)
+
+pub zeros-end : (l : List ℕ) (i : ℕ) → length l ≤ i → zeros (drop i l) ≡ true
+unfolding zeros
+zeros-end l i h = rw (drop-of-length-le l {i = i} h)
+
+-- ---- sameList
+pub same-broken : (l k : List ℕ) (i : ℕ) → i < length l → i < length k → (getD l i 0 ≡ getD k i 0 → ⊥) → sameList (drop i l) (drop i k) ≡ false
+unfolding sameList and
+same-broken l k i h g e = rw (drop-cons l i 0 h, drop-cons k i 0 g, ne-eqb (getD l i 0) (getD k i 0) e)
+
+pub same-next : (l k : List ℕ) (i : ℕ) → i < length l → i < length k → getD l i 0 ≡ getD k i 0 → sameList (drop i l) (drop i k) ≡ sameList (drop (i + 1) l) (drop (i + 1) k)
+unfolding sameList and
+same-next l k i h g e = rw (drop-cons l i 0 h, drop-cons k i 0 g, eq-eqb (getD l i 0) (getD k i 0) e, add-one)
+
+pub same-end : (l k : List ℕ) (i : ℕ) → length l ≤ i → length k ≤ i → sameList (drop i l) (drop i k) ≡ true
+unfolding sameList
+same-end l k i h g = rw (drop-of-length-le l {i = i} h, drop-of-length-le k {i = i} g)
+
+pub same-lengths : (l k : List ℕ) → (length l ≡ length k → ⊥) → sameList l k ≡ false
+unfolding sameList and
+same-lengths [] [] e = absurd (e refl)
+same-lengths [] (y ∷ k) e = refl
+same-lengths (x ∷ l) [] e = refl
+same-lengths (x ∷ l) (y ∷ k) e = rw (same-lengths l k (λ p. e (ap suc p))) (go (eqb x y))
+  where
+    go : (t : Bool) → and t false ≡ false
+    go true = refl
+    go false = refl
 
 -- ---- ascending
 two-off : (l : List ℕ) (i : ℕ) → i + 1 < length l → drop i l ≡ getD l i 0 ∷ (getD l (i + 1) 0 ∷ drop (suc (i + 1)) l)

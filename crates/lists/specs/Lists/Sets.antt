@@ -1,15 +1,15 @@
 -- A list as the set of its members: one more element somewhere in it, and what holds of each member.
-use Prim.Native.Nat.{ℕ, zero, suc, _<_}
+use Prim.Native.Nat.{ℕ, zero, suc, _<_, _≤_}
 use mathlib.Core.Path.{_≡_, refl, sym, ap, _∙_}
 use mathlib.Core.Logic.{_⊎_, inl, inr}
 use mathlib.Core.Bool.{Bool, true, false, not}
 use mathlib.Core.List.{List, [], _∷_, _++_}
 use native.Mathlib.Omega.{arith}
-use borrow.Author.Tests.{eqb-true, eq-eqb, not-true}
+use borrow.Author.Tests.{eqb-true, eqb-false, eq-eqb, not-true}
 use lib.Dec.{eqb}
 use lib.ListN.{length}
-use Rattle.lists.specs.Choice.{and, or}
-use Rattle.lists.specs.Choice.Laws.{and-true, and-both, or-true, or-false, or-neither}
+use Rattle.lists.specs.Choice.{or}
+use Rattle.lists.specs.Choice.Laws.{clash, and-true, and-both, or-true, or-false, or-neither}
 use Rattle.lists.specs.Lists.{nonzero, member, distinct, Below}
 
 eqb-sym : (x y : ℕ) → eqb x y ≡ false → eqb y x ≡ false
@@ -18,6 +18,23 @@ eqb-sym x y e = go (eqb y x) refl
     go : (t : Bool) → eqb y x ≡ t → eqb y x ≡ false
     go true p = ap (λ (z : ℕ). eqb z x) (eqb-true y x p) ∙ ap (eqb x) (sym (eqb-true y x p)) ∙ e
     go false p = p
+
+-- ---- members
+pub member-head : (x : ℕ) (l : List ℕ) → member x (x ∷ l) ≡ true
+unfolding member or
+member-head x l = rw (eq-eqb x x refl)
+
+pub member-tail : (x y : ℕ) (l : List ℕ) → member x l ≡ true → member x (y ∷ l) ≡ true
+unfolding member or
+member-tail x y l e = rw e (go (eqb y x))
+  where
+    go : (t : Bool) → or t true ≡ true
+    go true = refl
+    go false = refl
+
+pub member-cases : (x y : ℕ) (l : List ℕ) → member x (y ∷ l) ≡ true → (y ≡ x) ⊎ (member x l ≡ true)
+unfolding member
+member-cases x y l e = elim (or-true (eqb y x) (member x l) e) [ inl p ↦ inl (eqb-true y x p) | inr p ↦ inr p ]
 
 -- ---- one more element somewhere in a list
 pub data Inserted (x : ℕ) : List ℕ → List ℕ → Type 0 where
@@ -62,24 +79,20 @@ nonzero-snoc [] y e f = f
 nonzero-snoc (z ∷ l) y e f = let p = and-true (not (eqb z 0)) (nonzero l) e in and-both (p .0) (nonzero-snoc l y (p .1) f)
 
 -- ---- what holds of each member
--- no element is zero: zero is no member
-pub nonzero-member : (l : List ℕ) → nonzero l ≡ not (member 0 l)
-unfolding nonzero member and or
-nonzero-member [] = refl
-nonzero-member (x ∷ l) = go (eqb x 0) (nonzero-member l)
+pub nonzero-one : (x : ℕ) → nonzero (x ∷ []) ≡ true → 1 ≤ x
+unfolding nonzero
+nonzero-one x e = go (eqb-false x 0 (not-true (eqb x 0) (and-true _ _ e .0)))
   where
-    go : (t : Bool) → nonzero l ≡ not (member 0 l) → and (not t) (nonzero l) ≡ not (or t (member 0 l))
-    go true e = refl
-    go false e = e
+    go : (x ≡ 0 → ⊥) → 1 ≤ x
+    go h = omega (arith, h)
 
 -- each element is below a bound: each member is
 pub below-member : (m x : ℕ) (l : List ℕ) → Below m l → member x l ≡ true → x < m
-unfolding member
-below-member m x [] h e = absurd (let z : _≡_ {A = ℕ} 0 1 = cc in omega arith)
-below-member m x (y ∷ l) h e = go (or-true (eqb y x) (member x l) e) (λ p. below-member m x l (λ i. h (suc i)) p)
+below-member m x [] h e = clash e (unfold member in refl)
+below-member m x (y ∷ l) h e = go (member-cases x y l e) (below-member m x l (λ i. h (suc i)))
   where
-    go : (eqb y x ≡ true) ⊎ (member x l ≡ true) → (member x l ≡ true → x < m) → x < m
-    go (inl p) r = omega (arith, eqb-true y x p, h 0)
+    go : (y ≡ x) ⊎ (member x l ≡ true) → (member x l ≡ true → x < m) → x < m
+    go (inl p) r = omega (arith, p, h 0)
     go (inr p) r = r p
 
 pub below-cons : (m x : ℕ) (l : List ℕ) → x < m → Below m l → Below m (x ∷ l)
@@ -87,11 +100,6 @@ below-cons m x l h b zero = h
 below-cons m x l h b (suc i) = b i
 
 pub member-below : (m : ℕ) (l : List ℕ) → 0 < m → ((x : ℕ) → member x l ≡ true → x < m) → Below m l
-unfolding member or
 member-below m [] h f i = h
-member-below m (y ∷ l) h f zero = f y (rw (eq-eqb y y refl))
-member-below m (y ∷ l) h f (suc i) = member-below m l h (λ x e. f x (rw e (go (eqb y x)))) i
-  where
-    go : (t : Bool) → or t true ≡ true
-    go true = refl
-    go false = refl
+member-below m (y ∷ l) h f zero = f y (member-head y l)
+member-below m (y ∷ l) h f (suc i) = member-below m l h (λ x e. f x (member-tail x y l e)) i

@@ -1,11 +1,15 @@
--- Laws of one link: whether it announces, and how much it holds.
-use Prim.Native.Nat.{_≤_}
-use mathlib.Core.Path.{_≡_, ap}
-use mathlib.Core.Bool.{true, false, not}
+-- Laws of one link: whether it announces, how much it holds, and what it does not hold.
+use Prim.Native.Nat.{ℕ, _≤_}
+use mathlib.Core.Path.{_≡_, refl, ap, _∙_}
+use mathlib.Core.Bool.{Bool, true, false, not}
+use mathlib.Core.List.{List}
 use native.Mathlib.Omega.{arith}
-use borrow.Author.Tests.{eqb-true, eqb-false, ne-eqb, not-true, not-false}
+use borrow.Author.Tests.{eqb-true, eqb-false, eq-eqb, ne-eqb, not-true, not-false}
+use lib.ListN.{take}
+use Rattle.lists.specs.Choice.{and}
+use Rattle.lists.specs.Lists.{member, sameList}
 use Rattle.protocol.specs.declared.Link.{Link}
-use Rattle.protocol.specs.Links.{announces, used}
+use Rattle.protocol.specs.Links.{announces, verifiesOf, holdsVerify, holdsVector, holdsCorrect, used}
 
 pub announces-some : (l : Link) → announces l ≡ true → 1 ≤ l .announce
 unfolding announces
@@ -26,3 +30,16 @@ some-announces l h = ap not (ne-eqb (l .announce) 0 (λ e. omega (arith, e)))
 pub count-used : (l : Link) → l .«verify_count» ≤ used l
 unfolding used
 count-used l = omega arith
+
+-- ---- what a link does not hold
+pub no-verify : (l : Link) (g : ℕ) → l .«verify_count» ≡ 0 → holdsVerify l g ≡ false
+unfolding holdsVerify verifiesOf
+no-verify l g e = ap (λ (k : ℕ). member g (take k (l .verifies))) e ∙ (unfold member in refl)
+
+pub no-announce : (l : Link) → l .announce ≡ 0 → announces l ≡ false
+unfolding announces
+no-announce l e = ap not (eq-eqb (l .announce) 0 e)
+
+pub no-correct : (n : ℕ) (l : Link) (v : List ℕ) → l .held ≡ 0 → holdsCorrect n l v ≡ false
+unfolding holdsCorrect holdsVector and
+no-correct n l v e = ap (λ (t : Bool). and t (sameList (take n (l .list)) v)) (ne-eqb (l .held) 3 (λ q. omega (arith, q)))

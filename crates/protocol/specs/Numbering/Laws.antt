@@ -11,19 +11,19 @@ use Rattle.protocol.specs.Numbering.{baseAt, linkTo}
 -- ---- the two cases of each
 base-below : (b k : ℕ) → k < b → baseAt b k ≡ k
 unfolding baseAt
-base-below b k h = choose-yes k (k + 1) (lt-ltb k b h)
+base-below b k h = choose-yes _ _ (lt-ltb k b h)
 
 base-above : (b k : ℕ) → b ≤ k → baseAt b k ≡ k + 1
 unfolding baseAt
-base-above b k h = choose-no k (k + 1) (le-ltb k b h)
+base-above b k h = choose-no _ _ (le-ltb k b h)
 
 link-below : (b a : ℕ) → a < b → linkTo b a ≡ a
 unfolding linkTo
-link-below b a h = choose-yes a (a - 1) (lt-ltb a b h)
+link-below b a h = choose-yes _ _ (lt-ltb a b h)
 
 link-above : (b a : ℕ) → b ≤ a → linkTo b a ≡ a - 1
 unfolding linkTo
-link-above b a h = choose-no a (a - 1) (le-ltb a b h)
+link-above b a h = choose-no _ _ (le-ltb a b h)
 
 -- ---- they undo each other
 pub link-of-base : (b k : ℕ) → linkTo b (baseAt b k) ≡ k

@@ -8,7 +8,7 @@ use native.Mathlib.Numerals.{add-one}
 use native.Mathlib.Omega.{arith}
 use borrow.Author.Tests.{leb-false}
 use lib.Dec.{eqb}
-use lib.ListN.{length, drop, set}
+use lib.ListN.{length, take, drop, set}
 use lib.Seq.{take-suc-set, drop-set-lt, drop-drop}
 use Rattle.limits.specs.Limits.{mostBases}
 use Rattle.lists.specs.Choice.{choose, and, or}
@@ -25,7 +25,7 @@ use Rattle.protocol.specs.Steps.{withAnnounce, withVerify, withVector}
 
 pub not-full : (n : ℕ) (l : Link) → full n l ≡ false → used l < n + 1
 unfolding full
-not-full n l e = leb-false (n + 1) (used l) e
+not-full n l e = omega (arith, leb-false _ (used l) e)
 
 module _ {n : ℕ} {l : Link} (P : LinkParts n l) where
   pub announce-parts : (g : ℕ) → full n l ≡ false → LinkParts n (withAnnounce l g)
@@ -49,7 +49,7 @@ module _ {n : ℕ} {l : Link} (P : LinkParts n l) where
   -- a Verify stands behind those that were there
   verifies-longer : (g : ℕ) → l .«verify_count» < length (l .verifies) → verifiesOf (withVerify l g) ≡ verifiesOf l ++ (g ∷ [])
   unfolding verifiesOf withVerify
-  verifies-longer g h = rw add-one (take-suc-set (l .verifies) (l .«verify_count») g h)
+  verifies-longer g h = ap (λ (k : ℕ). take k (set (l .verifies) (l .«verify_count») g)) (add-one (l .«verify_count»)) ∙ take-suc-set (l .verifies) (l .«verify_count») g h
 
   verifies-behind : (g : ℕ) → zeros (drop (l .«verify_count» + 1) (set (l .verifies) (l .«verify_count») g)) ≡ true
   verifies-behind g =

@@ -6,7 +6,7 @@ use mathlib.Core.Bool.{true, false, not}
 use mathlib.Core.List.{List, [], _∷_}
 use native.Mathlib.Decide.{decLt}
 use native.Mathlib.Omega.{arith}
-use borrow.Author.Tests.{eqb-true, lt-leb}
+use borrow.Author.Tests.{eqb-true, ne-eqb, leb-true, lt-leb}
 use lib.ListN.{length, replicate, getD-replicate}
 use lib.Seq.{ext-getD}
 use Rattle.limits.specs.Limits.{mostBases, mostLinks, listRoom}
@@ -40,6 +40,10 @@ idle-state b e = eqb-true (b .state) 0 e
 pub idle-not-stopped : (b : Base) → idle b ≡ true → stopped b ≡ false
 unfolding stopped
 idle-not-stopped b e = lt-leb 2 (b .state) (omega (arith, idle-state b e))
+
+pub stopped-not-idle : (b : Base) → stopped b ≡ true → idle b ≡ false
+unfolding stopped idle
+stopped-not-idle b e = ne-eqb (b .state) 0 (λ q. omega (arith, leb-true 2 (b .state) e, q))
 
 pub idle-canonical : (b : Base) → Sized b → recordRefusal b ≡ 0 → idle b ≡ true → b ≡ idleBase (b .n) (b .t) (b .own)
 unfolding idleBase linkAt

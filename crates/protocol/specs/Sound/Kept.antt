@@ -1,9 +1,8 @@
 -- Soundness is kept: a call that is not turned down leaves a record that is not turned down, of the same n, t and own identifier. A running record stays
 -- sound while a message is taken in, since the changed link stays sound and the certified identifiers stay different; a base that stops does so with n
--- identifiers, above zero and ascending. A call that is turned down returns the record as it came.
+-- identifiers, above zero and ascending. That a call that is turned down returns the record as it came is in Steps/Answers.
 use Prim.Native.Nat.{ℕ, _-_, _≤_, _<_}
 use mathlib.Core.Path.{_≡_, refl, sym, _∙_, subst}
-use mathlib.Core.Logic.{_≢_}
 use mathlib.Core.Bool.{true}
 use mathlib.Core.List.{List}
 use native.Mathlib.Omega.{arith}
@@ -18,8 +17,8 @@ use Rattle.protocol.specs.Record.{linkAt, linkCount, certified}
 use Rattle.protocol.specs.Record.Memory.{Sized}
 use Rattle.protocol.specs.Sound.{stopped, finalSound, recordRefusal}
 use Rattle.protocol.specs.Sound.Laws.{ListParts, parts-list}
-use Rattle.protocol.specs.Steps.{Done, refuses, discards, accepts, withState, withFinal, stops, onMessage, begins, startStep, start, arrivalStep, arrival}
-use Rattle.protocol.specs.Steps.Cases.{Decides, prime, secondary, Ends, discarding, runningOn, stopping, message-ends, begun, afterStart, Heard, start-step-cases, start-cases, arrival-step-cases, arrival-cases}
+use Rattle.protocol.specs.Steps.{Done, discards, accepts, withState, withFinal, stops, onMessage, begins, startStep, start, arrivalStep, arrival}
+use Rattle.protocol.specs.Steps.Cases.{Decides, prime, secondary, Ends, discarding, runningOn, stopping, message-ends, begun, afterStart, Heard, arrival-heard, start-step-cases, start-answered, arrival-step-cases, arrival-answered}
 use Rattle.protocol.specs.Steps.Decided.{Roster, decides-roster, roster-padded}
 use Rattle.protocol.specs.Steps.Laws.{SameSetting, takes-rest}
 use Rattle.protocol.specs.Steps.Memory.{takes-sized, stops-sized, begun-sized}
@@ -35,7 +34,7 @@ pub record Kept (b : Base) (d : Done) : Type 0 where
 
 -- ---- a base that stops
 decides-state : {c : Base} {m : Message} {state : ℕ} {v : List ℕ} → Decides c m state v → (2 ≤ state) × (state ≤ 3)
-decides-state (prime e) = (omega arith, omega arith)
+decides-state (prime H e) = (omega arith, omega arith)
 decides-state (secondary H e) = (omega arith, omega arith)
 
 stopped-final : (b : Base) → 2 ≤ b .state → ListParts (b .n) (b .«final_list») → finalSound b ≡ true
@@ -55,7 +54,7 @@ unfolding stops accepts withState withFinal
 stops-setting b c state v said same = record { n = same .n; t = same .t; own = same .own }
 
 -- ---- steps
-same-setting : (b : Base) → SameSetting b b
+pub same-setting : (b : Base) → SameSetting b b
 same-setting b = record { n = refl; t = refl; own = refl }
 
 module _ {b : Base} (R : Runs b) (S : Sized b) (i : ℕ) (below : i < b .n - 1) (m : Message) (w : Valid (b .n) m) where
@@ -105,13 +104,8 @@ arrival-step-kept b i m S H = arrival-step-cases (Kept b) b i m (λ _. discards-
     (λ on. message-kept (admitted-runs b (H .refusal) on) S i (H .place) m (H .valid))
 
 -- ---- the calls
--- a call that is turned down keeps nothing to speak of: its number is not 0
-refuses-not : (b : Base) (r : ℕ) → r ≢ 0 → callRefusal (refuses b r .answer) ≡ 0 → Kept b (refuses b r)
-unfolding refuses callRefusal
-refuses-not b r h e = absurd (h e)
-
 pub start-kept : (b : Base) (room : ℕ) → Sized b → callRefusal (start b room .answer) ≡ 0 → Kept b (start b room)
-start-kept b room S = start-cases (λ (d : Done). callRefusal (d .answer) ≡ 0 → Kept b d) b room (refuses-not b) (λ e _. start-step-kept b S e)
+start-kept b room S = start-answered (Kept b) b room (start-step-kept b S)
 
 pub arrival-kept : (b : Base) (link : ℕ) (burst : List ℕ) (room : ℕ) → Sized b → Below 256 burst → callRefusal (arrival b link burst room .answer) ≡ 0 → Kept b (arrival b link burst room)
-arrival-kept b link burst room S bytes = arrival-cases (λ (d : Done). callRefusal (d .answer) ≡ 0 → Kept b d) b link burst room bytes (refuses-not b) (λ H _. arrival-step-kept b _ _ S H)
+arrival-kept b link burst room S bytes = arrival-answered (Kept b) b link burst room (λ e. arrival-step-kept b _ _ S (arrival-heard b link burst room bytes e))

@@ -99,17 +99,17 @@ module _ {b : Base} (R : Runs b) (S : Sized b) {i : ℕ} (below : i < b .n - 1) 
   unfolding changed idsOf
   changed-sound (takesAnnounce g p q r) w = announce-parts link-sound g r
   changed-sound (takesVerify g p q) w = verify-parts link-sound g (w .above-zero) p q (verify-room q)
-  changed-sound (takesCorrect v p) w = vector-parts link-sound 3 v (inl refl) (roster-padded (valid-roster (correct-list v) w))
-  changed-sound (takesAndVotes v p) w = vector-parts link-sound 3 v (inl refl) (roster-padded (valid-roster (correct-list v) w))
-  changed-sound (takesVerifyFinal v) w = vector-parts link-sound 4 v (inr refl) (roster-padded (valid-roster (verify-list v) w))
+  changed-sound (takesCorrect v o p) w = vector-parts link-sound 3 v (inl refl) (roster-padded (valid-roster (correct-list v) w))
+  changed-sound (takesAndVotes v o p) w = vector-parts link-sound 3 v (inl refl) (roster-padded (valid-roster (correct-list v) w))
+  changed-sound (takesVerifyFinal v o) w = vector-parts link-sound 4 v (inr refl) (roster-padded (valid-roster (verify-list v) w))
 
   takes-sent : {m : Message} {c : Base} {said : List Message} → Takes b i m c said → c .sent ≤ 1
   unfolding withLink withSent
   takes-sent (takesAnnounce g p q r) = R .standing .sent
   takes-sent (takesVerify g p q) = R .standing .sent
-  takes-sent (takesCorrect v p) = R .standing .sent
-  takes-sent (takesAndVotes v p) = omega arith
-  takes-sent (takesVerifyFinal v) = R .standing .sent
+  takes-sent (takesCorrect v o p) = R .standing .sent
+  takes-sent (takesAndVotes v o p) = omega arith
+  takes-sent (takesVerifyFinal v o) = R .standing .sent
 
   takes-standing : {m : Message} {c : Base} {said : List Message} → Takes b i m c said → Valid (b .n) m → Standing c
   takes-standing {c = c} T w = record {

@@ -2,15 +2,11 @@
 use Prim.Native.Nat.{ℕ, _-_, _≤_, _<_, min}
 use mathlib.Core.Path.{_≡_, refl, ap, ap₂, _∙_}
 use mathlib.Core.Bool.{true, false}
-use mathlib.Core.List.{List, [], _∷_}
-use native.Mathlib.Omega.{arith}
-use borrow.Author.Tests.{eqb-false, not-true}
-use lib.Dec.{eqb}
+use mathlib.Core.List.{List, _∷_}
 use lib.ListN.{length}
-use Rattle.lists.specs.Choice.Laws.{and-true}
 use Rattle.limits.specs.Limits.{mostLinks}
 use Rattle.lists.specs.Lists.{member, distinct, nonzero}
-use Rattle.lists.specs.Lists.Sets.{Inserted, there, inserted-distinct}
+use Rattle.lists.specs.Lists.Sets.{Inserted, there, inserted-distinct, nonzero-one}
 use Rattle.frame.specs.Message.{Message, announce, idsOf}
 use Rattle.protocol.specs.declared.Link.{Link}
 use Rattle.protocol.specs.declared.Base.{Base}
@@ -31,31 +27,24 @@ pub data Adds (b c : Base) : Message → Type 0 where
   addsNone : {m : Message} → announcedTo c ≡ announcedTo b → Adds b c m
 
 -- where the link that the message came on announces what it did before
-announced-kept : {b : Base} {i : ℕ} {m : Message} {c : Base} {said : List Message} (T : Takes b i m c said) → i < length (b .links) → changed T .announce ≡ linkAt b i .announce → announcedTo c ≡ announcedTo b
+pub announced-kept : {b : Base} {i : ℕ} {m : Message} {c : Base} {said : List Message} (T : Takes b i m c said) → i < length (b .links) → changed T .announce ≡ linkAt b i .announce → announcedTo c ≡ announcedTo b
 unfolding linkCount
 announced-kept {b} {c = c} T h e =
     ap (λ (n : ℕ). announced (min (n - 1) mostLinks) (linkAt c)) (takes-rest T .setting .n)
     ∙ announced-same (linkCount b) (linkAt b) (linkAt c) (takes-each (λ (j : ℕ) (l : Link). l .announce ≡ linkAt b j .announce) (linkCount b) T h e (λ j _. refl))
 
 -- where it announces one that it did not
-announced-added : (b : Base) (i g : ℕ) → i < linkCount b → i < length (b .links) → 1 ≤ g → announces (linkAt b i) ≡ false → Inserted g (announcedTo b) (announcedTo (withLink b i (withAnnounce (linkAt b i) g)))
+pub announced-added : (b : Base) (i g : ℕ) → i < linkCount b → i < length (b .links) → 1 ≤ g → announces (linkAt b i) ≡ false → Inserted g (announcedTo b) (announcedTo (withLink b i (withAnnounce (linkAt b i) g)))
 unfolding withAnnounce withLink linkCount
 announced-added b i g below h some silent = announced-more (linkCount b) (linkAt b) (linkAt (withLink b i (withAnnounce (linkAt b i) g))) i g below silent some (ap (λ (l : Link). l .announce) (stored-same b i _ h)) (stored-other b i _)
 
-above-zero : (g : ℕ) → nonzero (g ∷ []) ≡ true → 1 ≤ g
-unfolding nonzero
-above-zero g e = go (eqb-false g 0 (not-true (eqb g 0) (and-true _ _ e .0)))
-  where
-    go : (g ≡ 0 → ⊥) → 1 ≤ g
-    go h = omega (arith, h)
-
 pub takes-adds : {b : Base} {i : ℕ} {m : Message} {c : Base} {said : List Message} → Takes b i m c said → i < linkCount b → i < length (b .links) → nonzero (idsOf m) ≡ true → Adds b c m
 unfolding changed withVerify withVector idsOf
-takes-adds {b} {i} (takesAnnounce g p q r) below h some = addsOne q (announced-added b i g below h (above-zero g some) p)
+takes-adds {b} {i} (takesAnnounce g p q r) below h some = addsOne q (announced-added b i g below h (nonzero-one g some) p)
 takes-adds (takesVerify g p q) below h some = addsNone (announced-kept (takesVerify g p q) h refl)
-takes-adds (takesCorrect v p) below h some = addsNone (announced-kept (takesCorrect v p) h refl)
-takes-adds (takesAndVotes v p) below h some = addsNone (announced-kept (takesAndVotes v p) h refl)
-takes-adds (takesVerifyFinal v) below h some = addsNone (announced-kept (takesVerifyFinal v) h refl)
+takes-adds (takesCorrect v o p) below h some = addsNone (announced-kept (takesCorrect v o p) h refl)
+takes-adds (takesAndVotes v o p) below h some = addsNone (announced-kept (takesAndVotes v o p) h refl)
+takes-adds (takesVerifyFinal v o) below h some = addsNone (announced-kept (takesVerifyFinal v o) h refl)
 
 -- the certified ones stay different
 pub adds-apart : {b c : Base} {m : Message} → c .own ≡ b .own → Adds b c m → distinct (certified b) ≡ true → distinct (certified c) ≡ true

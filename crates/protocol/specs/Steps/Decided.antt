@@ -27,7 +27,7 @@ pub valid-roster : {n : ℕ} {m : Message} → HoldsList m → Valid n m → Ros
 valid-roster {n} H w = record { count = w .count ∙ H n; above-zero = w .above-zero; ascends = w .ascends }
 
 pub decides-roster : {c : Base} {m : Message} {state : ℕ} {v : List ℕ} → 1 ≤ c .own → distinct (certified c) ≡ true → Valid (c .n) m → Decides c m state v → Roster (c .n) v
-decides-roster {c} some apart w (prime e) = record {
+decides-roster {c} some apart w (prime H e) = record {
   count = length-sort (certified c) ∙ prime-parts c e .count;
   above-zero = nonzero-sort (certified c) ∙ nonzero-certified c some;
   ascends = ascending-sort (certified c) apart;

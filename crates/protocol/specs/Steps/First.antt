@@ -4,22 +4,22 @@
 use Prim.Native.Nat.{ℕ, _-_, _≤_, _<_}
 use mathlib.Core.Path.{subst, subst₂, sym, _≡_, refl, ap, _∙_}
 use mathlib.Core.Logic.{_≢_}
-use mathlib.Core.Bool.{Bool, true, false, not}
+use mathlib.Core.Bool.{true, false, not}
 use mathlib.Core.List.{List, [], _∷_}
 use native.Mathlib.Nat.{mul-le-mul-right}
 use native.Mathlib.Omega.{arith}
-use borrow.Author.Tests.{eq-eqb, ne-eqb}
-use lib.ListN.{length, take}
+use lib.ListN.{length}
 use Rattle.limits.specs.Limits.{mostLinks, mostFaulty, frameBytes}
 use Rattle.limits.specs.Refusals.{NetSize}
 use Rattle.lists.specs.Choice.{and}
-use Rattle.lists.specs.Lists.{member, sameList, sumOver}
+use Rattle.lists.specs.Lists.{member, sumOver}
 use Rattle.counting.specs.Sums.{bit, sum}
 use Rattle.counting.specs.Sums.Bounds.{bit-most, sum-none, sum-lone}
 use Rattle.frame.specs.Message.{Message, verify, idsOf}
 use Rattle.protocol.specs.declared.Link.{Link}
 use Rattle.protocol.specs.declared.Base.{Base}
-use Rattle.protocol.specs.Links.{announces, verifiesOf, holdsVerify, holdsVector, holdsCorrect}
+use Rattle.protocol.specs.Links.{announces, holdsVerify, holdsCorrect}
+use Rattle.protocol.specs.Links.Laws.{no-verify, no-announce, no-correct}
 use Rattle.protocol.specs.Record.{linkAt, linkCount, links, certified, tally, tallySum, correctCount}
 use Rattle.protocol.specs.Record.Memory.{Sized}
 use Rattle.protocol.specs.Record.Laws.{link-room}
@@ -60,18 +60,6 @@ module _ (c : Base) (N : NetSize (c .n)) where
 abbrev pub Blank : Base → Type 0
 Blank c = (j : ℕ) → j < mostLinks → EmptyParts (linkAt c j)
 
-no-verify : (l : Link) (g : ℕ) → l .«verify_count» ≡ 0 → holdsVerify l g ≡ false
-unfolding holdsVerify verifiesOf
-no-verify l g e = ap (λ (k : ℕ). member g (take k (l .verifies))) e ∙ (unfold member in refl)
-
-no-announce : (l : Link) → l .announce ≡ 0 → announces l ≡ false
-unfolding announces
-no-announce l e = ap not (eq-eqb (l .announce) 0 e)
-
-no-correct : (n : ℕ) (l : Link) (v : List ℕ) → l .held ≡ 0 → holdsCorrect n l v ≡ false
-unfolding holdsCorrect holdsVector and
-no-correct n l v e = ap (λ (t : Bool). and t (sameList (take n (l .list)) v)) (ne-eqb (l .held) 3 (λ q. omega (arith, q)))
-
 -- it stays quiet: state and vote are as they were, and a Verify is all that it may broadcast
 pub record Quiet (c : Base) (d : Done) : Type 0 where
   pub state : d .base .state ≡ c .state
@@ -103,21 +91,21 @@ module _ (c : Base) (N : NetSize (c .n)) (few : c .t ≤ mostFaulty (c .n)) (bla
   unfolding changed withAnnounce withVerify withVector
   no-prime (takesAnnounce g p q r) = unheard-not-prime (takesAnnounce g p q r) (blank i here .count)
   no-prime (takesVerify g p q) = silent-not-prime (takesVerify g p q) (blank i here .announce)
-  no-prime (takesCorrect v p) = silent-not-prime (takesCorrect v p) (blank i here .announce)
-  no-prime (takesAndVotes v p) = silent-not-prime (takesAndVotes v p) (blank i here .announce)
-  no-prime (takesVerifyFinal v) = silent-not-prime (takesVerifyFinal v) (blank i here .announce)
+  no-prime (takesCorrect v o p) = silent-not-prime (takesCorrect v o p) (blank i here .announce)
+  no-prime (takesAndVotes v o p) = silent-not-prime (takesAndVotes v o p) (blank i here .announce)
+  no-prime (takesVerifyFinal v o) = silent-not-prime (takesVerifyFinal v o) (blank i here .announce)
 
   no-decision : {m : Message} {d : Base} {said : List Message} {state : ℕ} {v : List ℕ} → Takes c i m d said → Decides d m state v → ⊥
-  no-decision T (prime e) = no-prime T e
+  no-decision T (prime H e) = no-prime T e
   no-decision {m = m} {d = d} T (secondary H e) = omega (arith, secondary-parts d (idsOf m) e .correct, correct-most d (idsOf m) (takes-other T))
 
   takes-quiet : {m : Message} {d : Base} {said : List Message} → Takes c i m d said → Quiet c (accepts d said)
   unfolding accepts withLink encodeAll idsOf
   takes-quiet (takesAnnounce g p q r) = record { state = refl; sent = refl; brief = record { few = omega arith; small = omega (arith, bytes-one (verify g)) } }
   takes-quiet (takesVerify g p q) = record { state = refl; sent = refl; brief = record { few = omega arith; small = omega arith } }
-  takes-quiet (takesCorrect v p) = record { state = refl; sent = refl; brief = record { few = omega arith; small = omega arith } }
-  takes-quiet (takesAndVotes v p) = absurd (no-vote v p)
-  takes-quiet (takesVerifyFinal v) = record { state = refl; sent = refl; brief = record { few = omega arith; small = omega arith } }
+  takes-quiet (takesCorrect v o p) = record { state = refl; sent = refl; brief = record { few = omega arith; small = omega arith } }
+  takes-quiet (takesAndVotes v o p) = absurd (no-vote v p)
+  takes-quiet (takesVerifyFinal v o) = record { state = refl; sent = refl; brief = record { few = omega arith; small = omega arith } }
 
   ends-quiet : {m : Message} {d : Done} → Ends c i m d → Quiet c d
   unfolding discards encodeAll

@@ -1,5 +1,5 @@
--- What the steps leave alone: n, t and the own identifier always; while a message is taken in, all but the link that it came on and whether a
--- Verify-Final was sent. Then the arrays' lengths.
+-- What taking a message in leaves alone: all but the link that it came on and whether a Verify-Final was sent. So a property of every link is kept if the
+-- changed link has it.
 use Prim.Native.Nat.{ℕ, _<_}
 use mathlib.Core.Path.{_≡_, refl, sym, _∙_, subst}
 use mathlib.Core.Logic.{_≢_}
@@ -45,9 +45,9 @@ pub record SameRest (b c : Base) : Type 0 where
 takes-ind : (P : Base → Type 0) {b : Base} {i : ℕ} {m : Message} {c : Base} {said : List Message} → ((l : Link) → P (withLink b i l)) → ((l : Link) → P (withSent (withLink b i l))) → Takes b i m c said → P c
 takes-ind P stored voted (takesAnnounce g p q r) = stored _
 takes-ind P stored voted (takesVerify g p q) = stored _
-takes-ind P stored voted (takesCorrect v p) = stored _
-takes-ind P stored voted (takesAndVotes v p) = voted _
-takes-ind P stored voted (takesVerifyFinal v) = stored _
+takes-ind P stored voted (takesCorrect v o p) = stored _
+takes-ind P stored voted (takesAndVotes v o p) = voted _
+takes-ind P stored voted (takesVerifyFinal v o) = stored _
 
 pub takes-rest : {b : Base} {i : ℕ} {m : Message} {c : Base} {said : List Message} → Takes b i m c said → SameRest b c
 unfolding withLink withSent
@@ -63,17 +63,17 @@ takes-other {b} {i} T j ne = takes-ind (λ (c : Base). linkAt c j ≡ linkAt b j
 unfoldable pub changed : {b : Base} {i : ℕ} {m : Message} {c : Base} {said : List Message} → Takes b i m c said → Link
 changed {b} {i} (takesAnnounce g p q r) = withAnnounce (linkAt b i) g
 changed {b} {i} (takesVerify g p q) = withVerify (linkAt b i) g
-changed {b} {i} (takesCorrect v p) = withVector (linkAt b i) 3 v
-changed {b} {i} (takesAndVotes v p) = withVector (linkAt b i) 3 v
-changed {b} {i} (takesVerifyFinal v) = withVector (linkAt b i) 4 v
+changed {b} {i} (takesCorrect v o p) = withVector (linkAt b i) 3 v
+changed {b} {i} (takesAndVotes v o p) = withVector (linkAt b i) 3 v
+changed {b} {i} (takesVerifyFinal v o) = withVector (linkAt b i) 4 v
 
 pub takes-changed : {b : Base} {i : ℕ} {m : Message} {c : Base} {said : List Message} (T : Takes b i m c said) → i < length (b .links) → linkAt c i ≡ changed T
 unfolding changed
 takes-changed {b} {i} (takesAnnounce g p q r) h = stored-same b i _ h
 takes-changed {b} {i} (takesVerify g p q) h = stored-same b i _ h
-takes-changed {b} {i} (takesCorrect v p) h = stored-same b i _ h
-takes-changed {b} {i} (takesAndVotes v p) h = sent-link (holding b i 3 v) i ∙ stored-same b i _ h
-takes-changed {b} {i} (takesVerifyFinal v) h = stored-same b i _ h
+takes-changed {b} {i} (takesCorrect v o p) h = stored-same b i _ h
+takes-changed {b} {i} (takesAndVotes v o p) h = sent-link (holding b i 3 v) i ∙ stored-same b i _ h
+takes-changed {b} {i} (takesVerifyFinal v o) h = stored-same b i _ h
 
 -- what holds of that link now, and held of each before, holds of each now
 pub takes-each : (P : ℕ → Link → Type 0) {b : Base} {i : ℕ} {m : Message} {c : Base} {said : List Message} (k : ℕ) (T : Takes b i m c said) → i < length (b .links)

@@ -21,9 +21,9 @@ changed-sized : {b : Base} {i : ℕ} {m : Message} {c : Base} {said : List Messa
 unfolding changed withAnnounce withVerify withVector idsOf
 changed-sized (takesAnnounce g p q r) h S = record { verifies = S .verifies; list = S .list }
 changed-sized {b} {i} (takesVerify g p q) h S = record { verifies = length-set (linkAt b i .verifies) (linkAt b i .«verify_count») g ∙ S .verifies; list = S .list }
-changed-sized (takesCorrect v p) h S = record { verifies = S .verifies; list = length-pad mostBases v h }
-changed-sized (takesAndVotes v p) h S = record { verifies = S .verifies; list = length-pad mostBases v h }
-changed-sized (takesVerifyFinal v) h S = record { verifies = S .verifies; list = length-pad mostBases v h }
+changed-sized (takesCorrect v o p) h S = record { verifies = S .verifies; list = length-pad mostBases v h }
+changed-sized (takesAndVotes v o p) h S = record { verifies = S .verifies; list = length-pad mostBases v h }
+changed-sized (takesVerifyFinal v o) h S = record { verifies = S .verifies; list = length-pad mostBases v h }
 
 pub takes-sized : {b : Base} {i : ℕ} {m : Message} {c : Base} {said : List Message} → Takes b i m c said → i < mostLinks → length (idsOf m) ≤ mostBases → Sized b → Sized c
 takes-sized {i = i} T here h S = record {
@@ -45,9 +45,9 @@ changed-word : {b : Base} {i : ℕ} {m : Message} {c : Base} {said : List Messag
 unfolding changed withAnnounce withVerify withVector idsOf
 changed-word (takesAnnounce g p q r) h w = h 0
 changed-word (takesVerify g p q) h w = w
-changed-word (takesCorrect v p) h w = w
-changed-word (takesAndVotes v p) h w = w
-changed-word (takesVerifyFinal v) h w = w
+changed-word (takesCorrect v o p) h w = w
+changed-word (takesAndVotes v o p) h w = w
+changed-word (takesVerifyFinal v o) h w = w
 
 pub takes-words : {b : Base} {i : ℕ} {m : Message} {c : Base} {said : List Message} → Takes b i m c said → i < mostLinks → Below (2 ^ 32) (idsOf m) → Sized b → Words b → Words c
 takes-words {i = i} T here h S W = record {

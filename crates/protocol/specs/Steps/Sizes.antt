@@ -1,6 +1,5 @@
--- "A call broadcasts at most three frames, one after another in the output, 136 bytes at most." (document 01, "The steps"). A running base broadcasts at
--- most two: one as it takes a message in, and a Correct-Final if it then stops. An idle base broadcasts the two short frames of its start, and its
--- first message cannot stop it (First), so that one short frame at most follows.
+-- What a running base broadcasts on one message: two frames at most, one as it takes the message in, and a Correct-Final if it then stops. How many bytes
+-- that can be, for each kind of message.
 use Prim.Native.Nat.{ℕ, _+_, _≤_}
 use mathlib.Core.Path.{_≡_}
 use mathlib.Core.List.{List, [], _∷_, _++_}
@@ -51,9 +50,16 @@ pub takes-said : {b : Base} {i : ℕ} {m : Message} {c : Base} {said : List Mess
 unfolding saidRoom idsOf encodeAll
 takes-said (takesAnnounce g p q r) = (omega arith, omega (arith, bytes-one (verify g)))
 takes-said (takesVerify g p q) = (omega arith, omega arith)
-takes-said (takesCorrect v p) = (omega arith, omega arith)
-takes-said (takesAndVotes v p) = (omega arith, omega (arith, bytes-one (verifyFinal v)))
-takes-said (takesVerifyFinal v) = (omega arith, omega arith)
+takes-said (takesCorrect v o p) = (omega arith, omega arith)
+takes-said (takesAndVotes v o p) = (omega arith, omega (arith, bytes-one (verifyFinal v)))
+takes-said (takesVerifyFinal v o) = (omega arith, omega arith)
+
+pub said-fits : (m : Message) → length (idsOf m) ≤ mostBases → saidRoom m ≤ longestFrame
+unfolding saidRoom idsOf
+said-fits (announce g) h = omega arith
+said-fits (verify g) h = omega arith
+said-fits (correctFinal v) h = omega arith
+said-fits (verifyFinal v) h = omega arith
 
 -- a valid message has at most as many identifiers as a net can have bases
 pub valid-fits : (b : Base) (m : Message) → recordRefusal b ≡ 0 → Valid (b .n) m → length (idsOf m) ≤ mostBases
@@ -61,7 +67,7 @@ valid-fits b m e w = let N = record-passed b e .net in omega (arith, w .count, e
 
 -- the list that becomes final fits in a frame
 pub decides-fits : {c : Base} {m : Message} {state : ℕ} {v : List ℕ} → c .n ≤ mostBases → length (idsOf m) ≤ mostBases → Decides c m state v → length v ≤ mostBases
-decides-fits {c} h k (prime e) = omega (arith, length-sort (certified c), prime-parts c e .count)
+decides-fits {c} h k (prime H e) = omega (arith, length-sort (certified c), prime-parts c e .count)
 decides-fits h k (secondary H e) = k
 
 ends-brief : {b : Base} {i : ℕ} {m : Message} {d : Done} → b .n ≤ mostBases → length (idsOf m) ≤ mostBases → Ends b i m d → Brief 2 (saidRoom m + longestFrame) d

@@ -1,7 +1,7 @@
 -- Which number a write is turned down by, test by test, and whether frames fit.
 use mathlib.Core.Path.{_≡_, refl, sym, ap, _∙_}
 use mathlib.Core.Bool.{Bool, true, false, not}
-use mathlib.Core.List.{List}
+use mathlib.Core.List.{List, _++_}
 use Prim.Native.Nat.{ℕ, _+_, _*_, _≤_, _<_}
 use native.Mathlib.Omega.{arith}
 use borrow.Author.Tests.{lt-ltb, le-ltb, le-leb, lt-leb, eq-eqb, ne-eqb, ltb-false, eqb-true, not-false}
@@ -12,10 +12,11 @@ use Rattle.limits.specs.Refusals.{netRefusal, NetSize}
 use Rattle.limits.specs.Refusals.Laws.{net-passed}
 use Rattle.lists.specs.Choice.{choose, and}
 use Rattle.lists.specs.Choice.Laws.{choose-yes, and-no, passed, first-none, first-given, first-passed}
+use Rattle.frame.specs.Encoding.{frameOf, over}
 use Rattle.frame.specs.Message.{known, expected}
 use Rattle.frame.specs.Message.Laws.{expected-range}
 use Rattle.frame.specs.Reading.{listRefusal}
-use Rattle.writer.specs.Writing.{fits, lengthOf, writeRefusal}
+use Rattle.writer.specs.Writing.{fits, putLength, putOutput, twoLength, twoOutput, lengthOf, writeRefusal}
 
 -- ---- whether frames fit
 pub fits-room : {count bytes room : ℕ} → count ≤ mostBases → bytes ≤ room → fits count bytes room ≡ true
@@ -29,6 +30,23 @@ fits-many {count} bytes room h = simp (lt-leb count mostBases h)
 pub fits-short : (count : ℕ) {bytes room : ℕ} → room < bytes → fits count bytes room ≡ false
 unfolding fits
 fits-short count {bytes} {room} h = rw (lt-leb bytes room h) (and-no (leb count mostBases))
+
+-- a frame that fits is written
+pub put-length : (count room : ℕ) → count ≤ mostBases → frameBytes count ≤ room → putLength count room ≡ frameBytes count
+unfolding putLength
+put-length count room h k = choose-yes (frameBytes count) 0 (fits-room h k)
+
+pub put-output : (kind : ℕ) (ids output : List ℕ) → length ids ≤ mostBases → frameBytes (length ids) ≤ length output → putOutput kind ids output ≡ over (frameOf kind ids) output
+unfolding putOutput
+put-output kind ids output h k = choose-yes (over (frameOf kind ids) output) output (fits-room h k)
+
+pub two-length : (count room : ℕ) → count ≤ mostBases → 2 * frameBytes count ≤ room → twoLength count room ≡ frameBytes count
+unfolding twoLength
+two-length count room h k = choose-yes (frameBytes count) 0 (fits-room h k)
+
+pub two-output : (kind next : ℕ) (ids output : List ℕ) → length ids ≤ mostBases → 2 * frameBytes (length ids) ≤ length output → twoOutput kind next ids output ≡ over (frameOf kind ids ++ frameOf next ids) output
+unfolding twoOutput
+two-output kind next ids output h k = choose-yes (over (frameOf kind ids ++ frameOf next ids) output) output (fits-room h k)
 
 -- ---- the number of a write
 module _ (n kind : ℕ) (ids : List ℕ) (room : ℕ) where

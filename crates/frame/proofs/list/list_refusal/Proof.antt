@@ -1,29 +1,40 @@
--- `frame::list::list_refusal` meets its contract: each return is the definition at what the two tests ensured.
-use mathlib.Core.Path.{sym, _∙_}
+use Prim.Native.Nat.{ℕ}
+use mathlib.Core.List.{List}
+use mathlib.Core.Bool.{Bool}
+use mathlib.Core.Path.{_≡_, ap, sym, _∙_}
 use borrow.Author.Tests.{not-true, not-false}
 use borrow.Author.Needs.{needs}
+use lib.Seq.{take-length}
+use lib.ListN.{length, take}
+use Rattle.lists.specs.Lists.{nonzero, ascending}
 use Rattle.frame.specs.Reading.{listRefusal}
 use Rattle.lists.specs.Choice.{choose}
 use Rattle.frame.proofs.list.list_refusal.Statement.{statement}
 use Rattle.frame.proofs.list.list_refusal.Tie as tie
+
+-- `frame::list::list_refusal` meets its contract: each return is the definition at what the two tests ensured.
+
+-- a test of a list's whole front is the test of the list
+whole : (f : List ℕ → Bool) (s : List ℕ) {r t : Bool} → r ≡ f (take (length s) s) → r ≡ t → f s ≡ t
+whole f s p q = sym (ap f (take-length s)) ∙ sym p ∙ q
 
 none-zero-requires : tie.Need-none-zero-requires
 none-zero-requires c κs = search needs
 
 returns : tie.Need-returns
 unfolding listRefusal choose
-returns c = simp (sym (c .before .none-zero .ensures) ∙ not-true _ (c .if1 .taken))
+returns c = let s = c .before .before .before .args .ids .now in simp (whole nonzero s (c .before .none-zero .ensures) (not-true _ (c .if1 .taken)))
 
 ascends-requires : tie.Need-ascends-requires
 ascends-requires c κs = search needs
 
 returns-2 : tie.Need-returns-2
 unfolding listRefusal choose
-returns-2 c = simp (sym (c .before .before .before .none-zero .ensures) ∙ not-false _ (c .before .before .if1 .left), sym (c .before .ascends .ensures) ∙ not-true _ (c .if2 .taken))
+returns-2 c = let s = c .before .before .before .before .before .args .ids .now in simp (whole nonzero s (c .before .before .before .none-zero .ensures) (not-false _ (c .before .before .if1 .left)), whole ascending s (c .before .ascends .ensures) (not-true _ (c .if2 .taken)))
 
 returns-3 : tie.Need-returns-3
 unfolding listRefusal choose
-returns-3 c = simp (sym (c .before .before .before .none-zero .ensures) ∙ not-false _ (c .before .before .if1 .left), sym (c .before .ascends .ensures) ∙ not-false _ (c .if2 .left))
+returns-3 c = let s = c .before .before .before .before .before .args .ids .now in simp (whole nonzero s (c .before .before .before .none-zero .ensures) (not-false _ (c .before .before .if1 .left)), whole ascending s (c .before .ascends .ensures) (not-false _ (c .if2 .left)))
 
 pub list-refusal-spec : {M : Type 1} → statement M
 list-refusal-spec =

@@ -1,0 +1,12 @@
+-- `engine::say::discarded` meets its contract: nothing is broadcast and nothing changes.
+use mathlib.Core.Path.{refl}
+use Rattle.protocol.specs.Steps.{stepOf, discards, outcomeOf, lengths}
+use Rattle.engine.proofs.say.discarded.Statement.{statement}
+use Rattle.engine.proofs.say.discarded.Tie as tie
+
+returns : tie.Need-returns
+unfolding stepOf discards outcomeOf lengths
+returns c = refl
+
+pub discarded-spec : {M : Type 1} → statement M
+discarded-spec = tie.close (tie.spec returns)

@@ -1,0 +1,25 @@
+-- What the engine's private functions ask and answer: a list in its array, the place of a link, and what a check leaves and broadcasts.
+use Prim.Native.Nat.{ℕ, _-_, _<_}
+use mathlib.Core.Path.{_≡_}
+use mathlib.Core.List.{List}
+use lib.ListN.{length, take}
+use Rattle.limits.specs.Limits.{mostBases}
+use Rattle.limits.specs.Refusals.{NetSize}
+use Rattle.lists.specs.Lists.{padTo}
+use Rattle.protocol.specs.declared.Base.{Base}
+use Rattle.protocol.specs.Steps.{Done, encodeAll}
+use Rattle.engine.specs.declared.stop.Checked.{Checked}
+pub mod Laws
+
+-- an array that holds n identifiers, zeros behind
+abbrev pub Holds : ℕ → List ℕ → Type 0
+Holds n v = v ≡ padTo mostBases (take n v)
+
+-- a base of a net, and one of its links
+pub record Place (b : Base) (i : ℕ) : Type 0 where
+  pub net : NetSize (b .n)
+  pub here : i < b .n - 1
+
+-- the base after a check, and the bytes that it broadcast
+unfoldable pub checkedOf : Done → Checked
+checkedOf d = record { base = d .base; length = length (encodeAll (d .says)) }

@@ -1,0 +1,4 @@
+// One base's agreement engine: a start, and an arrival on a link. A record goes in by value and comes back beside the answer; frames go into
+// the output that is lent, one after another.
+mod say;
+mod stop;

@@ -1,0 +1,12 @@
+-- `soundness::idle::idle_base` meets its contract: field by field.
+use mathlib.Core.Path.{refl}
+use Rattle.protocol.specs.Sound.{idleBase}
+use Rattle.soundness.proofs.idle.idle_base.Statement.{statement}
+use Rattle.soundness.proofs.idle.idle_base.Tie as tie
+
+returns : tie.Need-returns
+unfolding idleBase
+returns c = refl
+
+pub idle-base-spec : {M : Type 1} → statement M
+idle-base-spec = tie.close (tie.spec returns)

@@ -1,0 +1,94 @@
+// Whether what is held of one link is sound, or nothing.
+use held::held_count;
+use limits::MOST_BASES;
+use lists::ascends;
+use lists::differ;
+use lists::none_zero;
+use lists::zero_behind;
+use protocol::Link;
+ghost use mathlib.Core.Path.{_≡_};
+ghost use Rattle.protocol.specs.Sound.{listSound, verifiesSound, heldSound, linkSound, linkEmpty, placeSound};
+
+// n identifiers as kinds 3 and 4 demand, and zeros behind.
+pub fn list_sound(n: u8, list: [u32; MOST_BASES]) -> bool
+    ensures { λ r. ⌜ r ≡ listSound n list ⌝ }
+{
+    let count = n as usize;
+    if !none_zero(&list, count) {
+        return false;
+    }
+    if !ascends(&list, count) {
+        return false;
+    }
+    zero_behind(&list, count)
+}
+
+fn verifies_sound(link: Link) -> bool
+    ensures { λ r. ⌜ r ≡ verifiesSound link ⌝ }
+{
+    let count = link.verify_count as usize;
+    if !none_zero(&link.verifies, count) {
+        return false;
+    }
+    if !differ(&link.verifies, count) {
+        return false;
+    }
+    zero_behind(&link.verifies, count)
+}
+
+fn held_sound(n: u8, link: Link) -> bool
+    ensures { λ r. ⌜ r ≡ heldSound n link ⌝ }
+{
+    let kind = link.held;
+    let list = link.list;
+    match kind {
+        0 => zero_behind(&list, 0),
+        3 => list_sound(n, list),
+        4 => list_sound(n, list),
+        _ => false,
+    }
+}
+
+fn link_sound(n: u8, link: Link) -> bool
+    ensures { λ r. ⌜ r ≡ linkSound n link ⌝ }
+{
+    let most = n as usize + 1;
+    if most < held_count(link) {
+        return false;
+    }
+    if !verifies_sound(link) {
+        return false;
+    }
+    held_sound(n, link)
+}
+
+pub fn link_empty(link: Link) -> bool
+    ensures { λ r. ⌜ r ≡ linkEmpty link ⌝ }
+{
+    if link.announce != 0 {
+        return false;
+    }
+    if link.verify_count != 0 {
+        return false;
+    }
+    if !zero_behind(&link.verifies, 0) {
+        return false;
+    }
+    if link.held != 0 {
+        return false;
+    }
+    zero_behind(&link.list, 0)
+}
+
+// The link at place i: sound where the base has it, empty past its n - 1 links.
+pub fn place_sound(n: u8, i: usize, link: Link) -> bool
+    ensures { λ r. ⌜ r ≡ placeSound n i link ⌝ }
+{
+    let bases = n as usize;
+    if 0 < bases {
+        if i < bases - 1 {
+            return link_sound(n, link);
+        }
+    }
+    link_empty(link)
+}

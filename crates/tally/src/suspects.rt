@@ -1,0 +1,82 @@
+// Suspect pairs of certified identifiers.
+use crate::link_count;
+use counting::one;
+use held::has_announce;
+use held::holds_verify;
+use limits::MOST_LINKS;
+use protocol::Base;
+use protocol::Link;
+ghost use Prim.Native.Nat.{_<_, _≤_};
+ghost use mathlib.Core.Path.{_≡_};
+ghost use Rattle.limits.specs.Limits.{mostLinks};
+ghost use Rattle.counting.specs.Sums.{bit, sum};
+ghost use Rattle.protocol.specs.Record.{linkAt, links, suspectPair, suspectOwn, suspects};
+
+fn suspect_pair(a: Link, b: Link) -> bool
+    ensures { λ r. ⌜ r ≡ suspectPair a b ⌝ }
+{
+    if !has_announce(a) {
+        return false;
+    }
+    if !has_announce(b) {
+        return false;
+    }
+    if !holds_verify(a, b.announce) {
+        return true;
+    }
+    !holds_verify(b, a.announce)
+}
+
+fn suspect_own(own: u32, link: Link) -> bool
+    ensures { λ r. ⌜ r ≡ suspectOwn own link ⌝ }
+{
+    if has_announce(link) {
+        return !holds_verify(link, own);
+    }
+    false
+}
+
+// The suspect pairs of the link at place i with those before it.
+fn suspects_before(base: Base, i: usize) -> usize
+    requires { ⌜ i < mostLinks ⌝ }
+    ensures { λ r. ⌜ (r ≡ sum i (λ j. bit (suspectPair (linkAt base i) (linkAt base j)))) × (r ≤ mostLinks) ⌝ }
+{
+    let link = base.links[i];
+    let mut count: usize = 0;
+    let mut j: usize = 0;
+    while j < i {
+        let other = base.links[j];
+        count += one(suspect_pair(link, other));
+        j += 1;
+    }
+    count
+}
+
+// The suspect pairs with the own identifier: only the other's link is looked at.
+fn own_suspects(base: Base) -> usize
+    ensures { λ r. ⌜ (r ≡ links base (suspectOwn (base .own))) × (r ≤ mostLinks) ⌝ }
+{
+    let k = link_count(base.n);
+    let own = base.own;
+    let mut count: usize = 0;
+    let mut i: usize = 0;
+    while i < k {
+        let link = base.links[i];
+        count += one(suspect_own(own, link));
+        i += 1;
+    }
+    count
+}
+
+pub fn suspect_count(base: Base) -> usize
+    ensures { λ r. ⌜ r ≡ suspects base ⌝ }
+{
+    let k = link_count(base.n);
+    let mut count = own_suspects(base);
+    let mut i: usize = 0;
+    while i < k {
+        count += suspects_before(base, i);
+        i += 1;
+    }
+    count
+}
