@@ -139,13 +139,13 @@ module _ (me : ℕ) (b : Base) (inside : me < b .n) (R : Runs b) (S : Sized b) (
 
     voting : link .held ≢ 3 → votes holds v ≡ true → CallOf (correctFinal v) (secondaryCheck (withSent holds) v (verifyFinal v ∷ []))
     voting free e =
-        let T : Takes b i (correctFinal v) (withSent holds) (verifyFinal v ∷ []) = takesAndVotes v e in
+        let T : Takes b i (correctFinal v) (withSent holds) (verifyFinal v ∷ []) = takesAndVotes v free e in
         secondary-call me b inside R S settled x x-in ne (correctFinal v) w holds (withSent holds) (correct-stored free)
         (takes-rest T .setting) (takes-runs R S below T w) (sent-closing me holds) (verifyFinal v ∷ []) (vote-told e) v refl tt (unfold view withSent finalList in refl)
 
     not-voting : link .held ≢ 3 → votes holds v ≡ false → CallOf (correctFinal v) (secondaryCheck holds v [])
     not-voting free e =
-        let T : Takes b i (correctFinal v) holds [] = takesCorrect v e in
+        let T : Takes b i (correctFinal v) holds [] = takesCorrect v free e in
         secondary-call me b inside R S settled x x-in ne (correctFinal v) w holds holds (correct-stored free)
         (takes-rest T .setting) (takes-runs R S below T w) (λ s p f. refl) [] (nothing-told e) v refl tt refl
 
@@ -168,9 +168,10 @@ module _ (me : ℕ) (b : Base) (inside : me < b .n) (R : Runs b) (S : Sized b) (
 
       accepted : not (eqb (link .held) 0) ≡ false → CallOf (verifyFinal v) (secondaryCheck (holding b i 4 v) v [])
       accepted e =
-          let T : Takes b i (verifyFinal v) (holding b i 4 v) [] = takesVerifyFinal v in
+          let free : link .held ≡ 0 = eqb-true (link .held) 0 (not-false (eqb (link .held) 0) e) in
+          let T : Takes b i (verifyFinal v) (holding b i 4 v) [] = takesVerifyFinal v free in
           secondary-call me b inside R S settled x x-in ne (verifyFinal v) w (holding b i 4 v) (holding b i 4 v)
-          (changed-stored me b x ne (verifyFinal v) (withVector link 4 v) fits (vote-changes n link v (valid-length n (verifyFinal v) v refl w) (eqb-true (link .held) 0 (not-false (eqb (link .held) 0) e))))
+          (changed-stored me b x ne (verifyFinal v) (withVector link 4 v) fits (vote-changes n link v (valid-length n (verifyFinal v) v refl w) free))
           (takes-rest T .setting) (takes-runs R S below T w) (λ s p f. refl) [] (unfold withLink view in tells-nothing (λ k q. impossible (cc)) (λ u q. impossible (cc))) v refl tt refl
 
   pub message-call : (m : Message) → Valid n m → CallOf m (onMessage b i m)
