@@ -8,18 +8,14 @@ use native.Mathlib.Omega.{arith}
 use borrow.Author.Tests.{eqb-true}
 use lib.Dec.{eqb}
 use Rattle.lists.specs.Choice.{or}
+use Rattle.counting.specs.Sums.Bounds.{sum-none}
 use Rattle.counting.specs.Sums.{bit, sum}
-use Rattle.counting.specs.Sums.Laws.{sum-mono, sum-add, sum-same, sum-zeros, sum-cong, sum-term, sum-two}
+use Rattle.counting.specs.Sums.Laws.{sum-mono, sum-add, sum-same, sum-cong, sum-term, sum-two}
 
 unfoldable pub count : ℕ → (ℕ → Bool) → ℕ
 count k p = sum k (λ x. bit (p x))
 
 -- ---- one test
-pub bit-at-most-one : (t : Bool) → bit t ≤ 1
-unfolding bit
-bit-at-most-one true = le-refl 1
-bit-at-most-one false = zero-le
-
 pub bit-yes : {t : Bool} → t ≡ true → bit t ≡ 1
 unfolding bit
 bit-yes e = rw e
@@ -83,7 +79,7 @@ count-below k p f h = sum-mono k (λ x. bit (p x)) f (λ x l. bit-implies (p x) 
 
 pub count-none : (k : ℕ) (p : ℕ → Bool) → ((x : ℕ) → x < k → p x ≡ false) → count k p ≡ 0
 unfolding count
-count-none k p h = sum-cong k (λ x. bit (p x)) (λ x. 0) (λ x l. bit-no (h x l)) ∙ sum-zeros k
+count-none k p h = sum-none k (λ x. bit (p x)) (λ x l. bit-no (h x l))
 
 -- no two pass
 pub count-once : (k : ℕ) (p : ℕ → Bool) → ((x y : ℕ) → x < k → y < k → p x ≡ true → p y ≡ true → x ≡ y) → count k p ≤ 1

@@ -1,7 +1,7 @@
 -- Sums that are put together and cut down: the sum of two functions, and a function on a set of numbers, zero off it. Both stay shut, so that a law
 -- finds its arguments under a sum.
 use Prim.Native.Nat.{ℕ, zero, suc, _+_, _≤_, _<_}
-use mathlib.Core.Path.{_≡_, ap, _∙_}
+use mathlib.Core.Path.{_≡_, ap}
 use mathlib.Core.Logic.{_≢_}
 use mathlib.Core.Bool.{Bool, true, false}
 use native.Mathlib.Decide.{ℕ-discrete}
@@ -10,8 +10,9 @@ use borrow.Author.Tests.{eq-eqb, ne-eqb}
 use lib.Dec.{eqb}
 use Rattle.lists.specs.Choice.{choose}
 use Rattle.lists.specs.Choice.Laws.{choose-yes, choose-no}
+use Rattle.counting.specs.Sums.Bounds.{sum-none}
 use Rattle.counting.specs.Sums.{sum}
-use Rattle.counting.specs.Sums.Laws.{sum-add, sum-same, sum-zeros, sum-cong}
+use Rattle.counting.specs.Sums.Laws.{sum-add, sum-same}
 
 -- ---- two functions
 infixl 60 _⊞_
@@ -52,7 +53,7 @@ pub only-elsewhere : (a : ℕ) (f : ℕ → ℕ) (x : ℕ) → a ≢ x → only 
 only-elsewhere a f x e = within-no (eqb a) f x (ne-eqb a x e)
 
 only-past : (k a : ℕ) (f : ℕ → ℕ) → k ≤ a → sum k (only a f) ≡ 0
-only-past k a f h = sum-cong k (only a f) (λ x. 0) (λ x l. only-elsewhere a f x (omega arith)) ∙ sum-zeros k
+only-past k a f h = sum-none k (only a f) (λ x l. only-elsewhere a f x (omega arith))
 
 pub sum-only : (k a : ℕ) (f : ℕ → ℕ) → a < k → sum k (only a f) ≡ f a
 unfolding sum

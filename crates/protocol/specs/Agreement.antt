@@ -14,3 +14,4 @@ pub mod Observers
 pub mod Storing
 pub mod Accepting
 pub mod Starting
+pub mod Inner

@@ -5,32 +5,16 @@ use mathlib.Core.Logic.{_⊎_, inl, inr}
 use mathlib.Core.Bool.{Bool, true, false}
 use mathlib.Core.List.{List, [], _∷_, _++_}
 use native.Mathlib.Omega.{arith}
-use borrow.Author.Tests.{ltb-true, eqb-true, eq-eqb}
-use lib.Dec.{eqb, ltb}
-use Rattle.lists.specs.Choice.{or}
-use Rattle.lists.specs.Choice.Laws.{and-true, or-true}
+use borrow.Author.Tests.{ltb-true}
+use lib.Dec.{ltb}
+use Rattle.lists.specs.Choice.Laws.{and-true}
+use Rattle.lists.specs.Lists.Sets.{member-head, member-tail, member-cases}
 use Rattle.lists.specs.Lists.{member, ascending}
 
 -- ---- membership
-pub member-head : (x : ℕ) (l : List ℕ) → member x (x ∷ l) ≡ true
-unfolding member or
-member-head x l = rw (eq-eqb x x refl)
-
-pub member-tail : (z x : ℕ) (l : List ℕ) → member z l ≡ true → member z (x ∷ l) ≡ true
-unfolding member
-member-tail z x l e = rw e (either (eqb x z))
-  where
-    either : (t : Bool) → or t true ≡ true
-    either true = unfold or in refl
-    either false = unfold or in refl
-
 pub member-none : (z : ℕ) → member z [] ≡ true → ⊥
 unfolding member
 member-none z e = let k : _≡_ {A = ℕ} 0 1 = cc in omega arith
-
-pub member-cases : (z x : ℕ) (l : List ℕ) → member z (x ∷ l) ≡ true → (x ≡ z) ⊎ (member z l ≡ true)
-unfolding member
-member-cases z x l e = elim (or-true (eqb x z) (member z l) e) [ inl p ↦ inl (eqb-true x z p) | inr p ↦ inr p ]
 
 -- one more behind
 pub member-front : (z : ℕ) (l : List ℕ) (x : ℕ) → member z l ≡ true → member z (l ++ (x ∷ [])) ≡ true

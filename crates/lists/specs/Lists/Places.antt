@@ -8,7 +8,7 @@ use borrow.Author.Tests.{not-true}
 use lib.ListN.{length, getD}
 use Rattle.lists.specs.Choice.Laws.{and-true}
 use Rattle.lists.specs.Lists.{member, distinct}
-use Rattle.lists.specs.Lists.Order.{member-head, member-tail}
+use Rattle.lists.specs.Lists.Sets.{member-head, member-tail}
 
 pub member-at : (l : List ℕ) (i : ℕ) → i < length l → member (getD l i 0) l ≡ true
 member-at [] i h = absurd (omega arith)

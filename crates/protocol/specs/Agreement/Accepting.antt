@@ -1,18 +1,17 @@
 -- A running base accepts a message: the message is stored, what it calls for is said, and the checks are made. Whatever the kind of the message, that is a
 -- call as the argument knows it, from a few facts about each of the three.
-use Prim.Native.Nat.{ℕ, _+_, _≤_, _<_}
+use Prim.Native.Nat.{ℕ, _≤_, _<_}
 use mathlib.Core.Path.{_≡_, refl, sym, ap, _∙_, subst}
 use mathlib.Core.Logic.{_≢_, _⊎_, inl, inr}
-use mathlib.Core.Bool.{true, false}
 use mathlib.Core.List.{List, [], _∷_, _++_, List-discrete, List·Memᴰ·head, List·Memᴰ·not-nil, List·Memᴰ·eq-of-singleton, List·Memᴰ·append-cases, Memᴰ·append-left, Memᴰ·append-right}
 use native.Mathlib.Nat.{le-refl, le-trans}
 use native.Mathlib.Decide.{ℕ-discrete}
 use native.Mathlib.Omega.{arith}
 use Rattle.frame.specs.Message.{Message, announce, verify, correctFinal, verifyFinal}
 use Rattle.protocol.specs.Agreement.Cases.{impossible}
-use Rattle.protocol.specs.Agreement.Views.{View, Said, Holds, Certified, corrects, holdsOf, tallyOf, lacks, suspect, Prime, Secondary, Lists}
+use Rattle.protocol.specs.Agreement.Views.{View, Said, Holds, corrects, holdsOf, tallyOf, lacks, suspect, Prime, Secondary, Lists}
 use Rattle.protocol.specs.Agreement.Storing.{Vector, ListOf, vector-or-not, list-or-not, Stored, stored-names, stored-prime, stored-corrects, stored-secondary}
-use Rattle.protocol.specs.Agreement.Calls.{Input, arrival, Grows, Settled, Taken, Backed, Stopping, as-prime, as-secondary, Call}
+use Rattle.protocol.specs.Agreement.Calls.{arrival, Grows, Settled, Taken, Backed, Stopping, as-prime, as-secondary, Call}
 
 -- ---- what b broadcasts before the check, and whether a Verify-Final is sent after it
 pub data Telling (n : ℕ) (m : Message) (b a : View) : ℕ → List Message → Type 0 where
@@ -194,6 +193,7 @@ module _ (n t me own x : ℕ) (x-in : x < n) (m : Message) (b a : View) (S : Sto
     pub accepted-call : Call n t me own (arrival x m) b c (said ++ out)
     accepted-call = record {
       grows = c-grows;
+      runs = unfold closing in ending-states E .0;
       settled = c-settled;
       heard = λ y w ne h. elim (S .heard y w (c-holds y w h)) [ inl k ↦ inl k | inr k ↦ inr (same y w (k .0) (k .1)) ];
       taken = λ y w e s. c-taken y w e;

@@ -70,6 +70,7 @@ pub data Stopping (n t me : ℕ) (b c : View) : Type 0 where
 -- ---- one call at the base me
 pub record Call (n t me own : ℕ) (i : Input) (b c : View) (says : List Message) : Type 0 where
   pub grows : Grows b c
+  pub runs : 1 ≤ c .state
   pub settled : Settled n t me c
   -- what is held was held before, or has just arrived; what has arrived is taken
   pub heard : (x : ℕ) (m : Message) → x ≢ me → Holds c x m → Holds b x m ⊎ (i ≡ arrival x m)

@@ -13,7 +13,8 @@ use Rattle.counting.specs.Sums.Laws.{sum-term}
 use Rattle.counting.specs.Counts.{TwoOf}
 use Rattle.counting.specs.Degrees.{degree, total, untouched, untouched-none, two-untouched}
 use Rattle.counting.specs.Spread.{Reached}
-use Rattle.protocol.specs.Agreement.Cases.{zero-or-more, true-not-false}
+use Rattle.lists.specs.Choice.Laws.{clash}
+use Rattle.protocol.specs.Agreement.Cases.{zero-or-more}
 use Rattle.protocol.specs.Agreement.Views.{corrects, holdsOf, Secondary}
 use Rattle.protocol.specs.Agreement.Invariant.{Premises, State, Invariant}
 use Rattle.protocol.specs.Agreement.Liveness.Hears.{AtRest, running-or-not, hears-two, Tells, tells-truth, twice-faulty, silent, tells}
@@ -57,7 +58,7 @@ module _ (n t : ℕ) (faulty : ℕ → ℕ → ℕ) (id : ℕ → ℕ) (truth : 
     )
       where
         reached : Tells n t faulty id truth P N I R y x → Reached n faulty (eqb y) x
-        reached (tells-truth h) = absurd (true-not-false h none)
+        reached (tells-truth h) = clash h none
         reached (twice-faulty h) = inl h
         reached (silent s few) = absurd (omega (arith, two-held x l s))
 

@@ -10,11 +10,11 @@ use native.Mathlib.Omega.{arith}
 use borrow.Author.Tests.{eq-eqb, ne-eqb}
 use lib.Dec.{eqb}
 use Rattle.lists.specs.Choice.{or}
-use Rattle.lists.specs.Choice.Laws.{or-true}
+use Rattle.lists.specs.Choice.Laws.{or-true, clash}
 use Rattle.counting.specs.Counts.{count-below}
 use Rattle.counting.specs.Degrees.{degree}
 use Rattle.counting.specs.Spread.{Reached, spread}
-use Rattle.protocol.specs.Agreement.Cases.{zero-or-more, true-not-false}
+use Rattle.protocol.specs.Agreement.Cases.{zero-or-more}
 use Rattle.protocol.specs.Agreement.Views.{View, corrects, holdsOf, tallyOf}
 use Rattle.protocol.specs.Agreement.Invariant.{Premises}
 
@@ -53,7 +53,7 @@ module _ (n t : ℕ) (faulty : ℕ → ℕ → ℕ) (id : ℕ → ℕ) (truth : 
       on-faulty a k h = elim (zero-or-more (faulty x a)) [
         | inr f ↦ f
         | inl good ↦ elim (ℕ-discrete a x) [
-          | yes e ↦ absurd (true-not-false (ap (λ z. base x .correct z v) (sym e) ∙ h) (own-correct x v l))
+          | yes e ↦ clash (ap (λ z. base x .correct z v) (sym e) ∙ h) (own-correct x v l)
           | no e ↦ absurd (undecided a k (heard-correct x a v l k e (P .symmetric a x ∙ good) h))
         ]
       ]
@@ -64,8 +64,8 @@ module _ (n t : ℕ) (faulty : ℕ → ℕ → ℕ) (id : ℕ → ℕ) (truth : 
     where
       away : (x : ℕ) → holdsOf (base Y) v x ≡ true → Y ≢ x
       away x h e = elim (held-cases (base Y) v x h) [
-        | inl c ↦ true-not-false (ap (λ z. base Y .correct z v) e ∙ c) (own-correct Y v Y-in)
-        | inr c ↦ true-not-false (ap (λ z. base Y .vote z v) e ∙ c) (own-vote Y v Y-in)
+        | inl c ↦ clash (ap (λ z. base Y .correct z v) e ∙ c) (own-correct Y v Y-in)
+        | inr c ↦ clash (ap (λ z. base Y .vote z v) e ∙ c) (own-vote Y v Y-in)
       ]
 
       reached : (x : ℕ) → x < n → holdsOf (base Y) v x ≡ true → Reached n faulty (eqb Y) x

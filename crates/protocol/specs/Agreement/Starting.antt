@@ -1,6 +1,6 @@
 -- A start of an idle base, and an arrival that starts it first, as calls of the argument. A base that has just been started holds nothing, so both checks fail
 -- of it and it has nothing to vote for.
-use Prim.Native.Nat.{ℕ, _+_, _≤_, _<_}
+use Prim.Native.Nat.{ℕ, _≤_, _<_}
 use mathlib.Core.Path.{_≡_, refl, sym, ap, _∙_, subst}
 use mathlib.Core.Logic.{_≢_, _⊎_, inl, inr}
 use mathlib.Core.Bool.{false}
@@ -11,8 +11,8 @@ use native.Mathlib.Omega.{arith}
 use Rattle.counting.specs.Counts.{count-none}
 use Rattle.frame.specs.Message.{Message, announce, verify, correctFinal, verifyFinal}
 use Rattle.protocol.specs.Agreement.Cases.{zero-or-more, true-or-false, impossible}
-use Rattle.protocol.specs.Agreement.Views.{View, Said, Holds, corrects, Prime, Secondary}
-use Rattle.protocol.specs.Agreement.Calls.{Input, start, arrival, Grows, SoundView, Settled, Full, Taken, Backed, Stopping, before, as-prime, as-secondary, Call}
+use Rattle.protocol.specs.Agreement.Views.{View, Said, Holds, corrects, Prime}
+use Rattle.protocol.specs.Agreement.Calls.{start, arrival, SoundView, Taken, Backed, before, as-prime, as-secondary, Call}
 use Rattle.protocol.specs.Agreement.Growth.{grows-then, backed-grows}
 use Rattle.protocol.specs.Agreement.Accepting.{closing}
 
@@ -87,6 +87,7 @@ module _ (n t me own : ℕ) (two : 2 ≤ n) (me-in : me < n) (above : 1 ≤ own)
       sent = le-refl (b .sent);
       stays = λ h. absurd (omega (arith, B .idle));
     };
+    runs = omega (arith, started-state b);
     settled = record {
       not-prime = λ e P. not-prime P;
       not-secondary = λ v e P. omega (arith, P .two, no-corrects v);
@@ -117,6 +118,7 @@ module _ (n t me own x : ℕ) (m : Message) (b d : View) (said out : List Messag
   pub start-then-call : Call n t me own (arrival x m) b d (said ++ out)
   start-then-call = record {
     grows = grows-then (S .grows) (A .grows);
+    runs = A .runs;
     settled = A .settled;
     heard = λ y w ne h. elim (A .heard y w ne h) [ inl k ↦ elim (S .heard y w ne k) [ inl q ↦ inl q | inr q ↦ impossible (cc) ] | inr k ↦ inr k ];
     taken = λ y w e s. same-taken y w (A .taken y w e s);

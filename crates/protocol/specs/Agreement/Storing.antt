@@ -1,9 +1,9 @@
 -- A message is stored on a link: what is held stays, and only the message is new. So a message changes the checks by what it is about alone: a vector message
 -- leaves the prime check as it was, and no message raises the counts of a list that it does not hold.
-use Prim.Native.Nat.{ℕ, _+_, _≤_, _<_}
+use Prim.Native.Nat.{ℕ, _≤_, _<_}
 use mathlib.Core.Path.{_≡_, refl, sym, ap, ap₂, _∙_, subst}
 use mathlib.Core.Logic.{_≢_, _⊎_, inl, inr}
-use mathlib.Core.Bool.{Bool, true, false, not}
+use mathlib.Core.Bool.{true, not}
 use mathlib.Core.List.{List, List-discrete}
 use native.Mathlib.Nat.{le-trans}
 use native.Mathlib.Decide.{ℕ-discrete}
@@ -16,7 +16,8 @@ use Rattle.counting.specs.Sums.Laws.{sum-cong}
 use Rattle.counting.specs.Counts.{count-fewer}
 use Rattle.counting.specs.Degrees.{total}
 use Rattle.frame.specs.Message.{Message, announce, verify, correctFinal, verifyFinal}
-use Rattle.protocol.specs.Agreement.Cases.{zero-or-more, true-or-false, true-not-false, impossible}
+use Rattle.lists.specs.Choice.Laws.{clash}
+use Rattle.protocol.specs.Agreement.Cases.{zero-or-more, true-or-false, impossible}
 use Rattle.protocol.specs.Agreement.Views.{View, Holds, corrects, holdsOf, tallyOf, lacks, suspect, Prime, Secondary}
 use Rattle.protocol.specs.Agreement.Calls.{Grows}
 use Rattle.protocol.specs.Agreement.Secondary.{held-cases, held-correct, held-vote}
@@ -105,7 +106,7 @@ module _ (x : ℕ) (m : Message) (b a : View) (S : Stored x m b a) where
       verifies : (y g : ℕ) → member g (a .verifies y) ≡ member g (b .verifies y)
       verifies y g = elim (true-or-false (member g (a .verifies y))) [
         | inl h ↦ elim (S .heard y (verify g) h) [ inl k ↦ h ∙ sym k | inr k ↦ absurd (not-verify g m vector (sym (k .1))) ]
-        | inr h ↦ elim (true-or-false (member g (b .verifies y))) [ inl k ↦ absurd (true-not-false (S .grows .verifies y g k) h) | inr k ↦ h ∙ sym k ]
+        | inr h ↦ elim (true-or-false (member g (b .verifies y))) [ inl k ↦ clash (S .grows .verifies y g k) h | inr k ↦ h ∙ sym k ]
       ]
 
   pub stored-corrects : (n : ℕ) (v : List ℕ) → m ≢ correctFinal v → corrects n a v ≤ corrects n b v

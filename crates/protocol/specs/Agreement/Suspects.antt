@@ -10,7 +10,7 @@ use lib.Dec.{eqb}
 use Rattle.lists.specs.Choice.{and, or}
 use Rattle.lists.specs.Lists.{member}
 use Rattle.counting.specs.Sums.{bit}
-use Rattle.counting.specs.Counts.{bit-at-most-one}
+use Rattle.counting.specs.Sums.Bounds.{bit-most}
 use Rattle.counting.specs.Degrees.{Symmetric}
 use Rattle.protocol.specs.Agreement.Views.{View, lacks, suspect}
 
@@ -61,7 +61,7 @@ module _ (me : ℕ) (b : View) where
 
   pub suspect-at-most-one : (x y : ℕ) → suspect me b x y ≤ 1
   unfolding suspect
-  suspect-at-most-one x y = bit-at-most-one (and (not (eqb x y)) (or (lacks me b x y) (lacks me b y x)))
+  suspect-at-most-one x y = bit-most (and (not (eqb x y)) (or (lacks me b x y) (lacks me b y x)))
 
   pub suspect-none : (x y : ℕ) → x ≢ y → suspect me b x y ≡ 0 → lacks me b x y ≡ false
   suspect-none x y ne e = bit-or-none (lacks me b x y) (lacks me b y x) (sym (suspect-apart x y ne) ∙ e)

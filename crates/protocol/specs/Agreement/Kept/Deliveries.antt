@@ -12,7 +12,8 @@ use Rattle.lists.specs.Lists.{member}
 use Rattle.lists.specs.Lists.Places.{member-at, distinct-places}
 use Rattle.counting.specs.Pigeonhole.{Injective, Met, pigeonhole, pigeonhole-spare}
 use Rattle.frame.specs.Message.{Message, announce, verify, correctFinal, verifyFinal}
-use Rattle.protocol.specs.Agreement.Cases.{true-or-false, true-not-false}
+use Rattle.lists.specs.Choice.Laws.{clash}
+use Rattle.protocol.specs.Agreement.Cases.{true-or-false}
 use Rattle.protocol.specs.Agreement.Views.{View, Said, Holds, Certified}
 use Rattle.protocol.specs.Agreement.Calls.{arrival, Taken}
 use Rattle.protocol.specs.Agreement.Growth.{Delivered, delivered-grows}
@@ -55,7 +56,7 @@ module _ (n t : ℕ) (faulty : ℕ → ℕ → ℕ) (id : ℕ → ℕ) (truth : 
     verifies-room g said missing =
         let w : Certified n (N .base x) g = I .backed x (verify g) x-in said .1 in
         pigeonhole-spare (length (b .verifies x)) n verify-at (N .base x .named) verifies-apart verifies-certified (w .0) (w .1)
-        (λ k l e. true-not-false (member-at (b .verifies x) k l) (ap (λ z. member z (b .verifies x)) (e ∙ sym (w .2)) ∙ missing))
+        (λ k l e. clash (member-at (b .verifies x) k l) (ap (λ z. member z (b .verifies x)) (e ∙ sym (w .2)) ∙ missing))
 
     -- a name that is there is x's
     name-there : (g : ℕ) → Said (announce g) (N .log x) → 1 ≤ b .named x → Certified n c g

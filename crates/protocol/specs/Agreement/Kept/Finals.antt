@@ -12,7 +12,8 @@ use Rattle.lists.specs.Lists.Order.{ascending-unique}
 use Rattle.counting.specs.Search.{each-or-one}
 use Rattle.counting.specs.Pigeonhole.{Injective, Met}
 use Rattle.frame.specs.Message.{Message, announce, verify, correctFinal, verifyFinal}
-use Rattle.protocol.specs.Agreement.Cases.{running-or-stopped, prime-or-secondary, true-not-false}
+use Rattle.lists.specs.Choice.Laws.{clash}
+use Rattle.protocol.specs.Agreement.Cases.{running-or-stopped, prime-or-secondary}
 use Rattle.protocol.specs.Agreement.Views.{View, Said, Holds, Certified, tallyOf, Prime, Secondary, Lists}
 use Rattle.protocol.specs.Agreement.Calls.{Grows, SoundView, Stopping, before, as-prime, as-secondary}
 use Rattle.protocol.specs.Agreement.Growth.{certified-grows, corrects-grow}
@@ -31,8 +32,8 @@ lists-unique n c id v u there back p q = ascending-unique v u (p .ascends) (q .a
 
     same : (g : ℕ) (s t : Bool) → member g v ≡ s → member g u ≡ t → s ≡ t
     same g true true e f = refl
-    same g true false e f = absurd (true-not-false (across c id v u p q there g e) f)
-    same g false true e f = absurd (true-not-false (across id c u v q p back g f) e)
+    same g true false e f = clash (across c id v u p q there g e) f
+    same g false true e f = clash (across id c u v q p back g f) e
     same g false false e f = refl
 
 module _ (n t : ℕ) (faulty : ℕ → ℕ → ℕ) (id : ℕ → ℕ) (truth : List ℕ) (P : Premises n t faulty id truth) (N M : State)

@@ -11,7 +11,7 @@ use native.Mathlib.Omega.{arith}
 use borrow.Author.Tests.{eq-eqb, ne-eqb}
 use lib.Dec.{eqb}
 use Rattle.lists.specs.Choice.{or}
-use Rattle.lists.specs.Choice.Laws.{or-neither}
+use Rattle.lists.specs.Choice.Laws.{or-neither, clash}
 use Rattle.lists.specs.Lists.{member}
 use Rattle.counting.specs.Sums.{bit}
 use Rattle.counting.specs.Sums.Laws.{sum-term}
@@ -20,7 +20,7 @@ use Rattle.counting.specs.Counts.{bit-yes}
 use Rattle.counting.specs.Degrees.{degree, total-mono, pairs-twice, rows-covered}
 use Rattle.counting.specs.Spread.{Reached}
 use Rattle.frame.specs.Message.{announce}
-use Rattle.protocol.specs.Agreement.Cases.{zero-or-more, prime-or-secondary, true-not-false}
+use Rattle.protocol.specs.Agreement.Cases.{zero-or-more, prime-or-secondary}
 use Rattle.protocol.specs.Agreement.Views.{Certified, corrects, holdsOf, lacks, suspect, Prime}
 use Rattle.protocol.specs.Agreement.Suspects.{lacks-own, lacks-other, suspect-self, suspect-symmetric, suspect-at-most-one, suspect-neither}
 use Rattle.protocol.specs.Agreement.Invariant.{Premises, State, Invariant}
@@ -124,7 +124,7 @@ module _ (n t : ℕ) (faulty : ℕ → ℕ → ℕ) (id : ℕ → ℕ) (truth : 
       missed x l ne none = (or-neither (away a a-in a-stopped) (away c c-in c-stopped), reached (tells n t faulty id truth P N I R p x p-in l ne (good x l) runs))
         where
           away : (s : ℕ) → s < n → 2 ≤ N .base s .state → eqb s x ≡ false
-          away s ls stopped = ne-eqb s x (λ e. true-not-false (held-correct (N .base p) truth x (rw e at (hears-correct n t faulty id truth P N I R p s p-in ls (good s ls) runs stopped))) none)
+          away s ls stopped = ne-eqb s x (λ e. clash (held-correct (N .base p) truth x (rw e at (hears-correct n t faulty id truth P N I R p s p-in ls (good s ls) runs stopped))) none)
 
           -- one that runs and has sent no Verify-Final does not hold both Correct-Finals
           cut-off : N .base x .state ≡ 1 → corrects n (N .base x) truth ≤ 1 → Reached n faulty set x
@@ -137,7 +137,7 @@ module _ (n t : ℕ) (faulty : ℕ → ℕ → ℕ) (id : ℕ → ℕ) (truth : 
           ]
 
           reached : Tells n t faulty id truth P N I R p x → Reached n faulty set x
-          reached (tells-truth h) = absurd (true-not-false h none)
+          reached (tells-truth h) = clash h none
           reached (twice-faulty h) = inl h
           reached (silent s few) = cut-off s few
 

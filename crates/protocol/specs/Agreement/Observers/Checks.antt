@@ -1,6 +1,6 @@
 -- The prime check and the secondary check hold of a record exactly if they hold of its view: the tallies' sum and the suspect pairs, counted over links, are
 -- those counted over bases.
-use Prim.Native.Nat.{ℕ, suc, _+_, _*_, _-_, _≤_, _<_}
+use Prim.Native.Nat.{ℕ, _+_, _*_, _-_, _≤_, _<_}
 use mathlib.Core.Path.{_≡_, refl, sym, ap, ap₂, _∙_, subst}
 use mathlib.Core.Logic.{_≢_}
 use mathlib.Core.Bool.{Bool, true, false, not}
@@ -11,22 +11,22 @@ use lib.Dec.{eqb, leb}
 use lib.ListN.{length}
 use Rattle.lists.specs.Choice.{and, or}
 use Rattle.lists.specs.Choice.Laws.{and-true, and-both}
-use Rattle.lists.specs.Lists.{member, distinct, sort, sumOver}
+use Rattle.lists.specs.Lists.{member, distinct, sort}
 use Rattle.lists.specs.Lists.Sorted.{member-sort, ascending-sort}
 use Rattle.counting.specs.Sums.{bit, sum, pairs}
 use Rattle.counting.specs.Sums.Laws.{sum-cong, sum-add, sum-swap, sum-same}
 use Rattle.counting.specs.Counts.{count}
-use Rattle.counting.specs.Degrees.{degree, total}
-use Rattle.counting.specs.Gap.{skip, sum-skip, pairs-skip}
+use Rattle.counting.specs.Degrees.{total}
+use Rattle.counting.specs.Gap.{skip, pairs-skip}
 use Rattle.protocol.specs.declared.Link.{Link}
 use Rattle.protocol.specs.declared.Base.{Base}
-use Rattle.protocol.specs.Links.{noLink, announces, verifiesOf, holdsVerify}
+use Rattle.protocol.specs.Links.{announces, verifiesOf, holdsVerify}
 use Rattle.protocol.specs.Record.{linkAt, linkCount, links, certified, tally, tallySum, suspectPair, suspectOwn, suspects, listTally, correctCount}
 use Rattle.protocol.specs.Record.Laws.{link-count}
 use Rattle.protocol.specs.Steps.{primeHolds, secondaryHolds}
 use Rattle.protocol.specs.Agreement.Views.{View, lacks, suspect, Prime, Secondary, Lists}
 use Rattle.protocol.specs.Agreement.Suspects.{lacks-own, lacks-other, suspect-self, suspect-symmetric, suspect-apart}
-use Rattle.protocol.specs.Agreement.Observers.{placeOf, linkFor, view}
+use Rattle.protocol.specs.Agreement.Observers.{placeOf, view}
 use Rattle.protocol.specs.Agreement.Observers.Places.{place-skip, skip-other, link-skip}
 use Rattle.protocol.specs.Agreement.Observers.Counts.{Inside, size, links-seen, corrects-seen, tally-seen}
 use Rattle.protocol.specs.Agreement.Observers.Names.{named-own, named-skip, named-certified, certified-named, full-named, all-announce, named-full, certified-sum}

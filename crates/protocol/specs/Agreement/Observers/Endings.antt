@@ -1,52 +1,47 @@
 -- The ways in which a message that arrives at a running base ends, as calls that the argument knows: it is discarded, or it is stored and the prime check or
 -- the secondary check follows.
 use Prim.Native.Nat.{ℕ, _+_, _-_, _≤_, _<_, min}
-use mathlib.Core.Path.{_≡_, refl, sym, ap, ap₂, _∙_, subst, subst₂}
-use mathlib.Core.Logic.{_≢_, _⊎_, inl, inr}
-use mathlib.Core.Bool.{Bool, true, false, not}
+use mathlib.Core.Path.{_≡_, refl, sym, ap, _∙_, subst, subst₂}
+use mathlib.Core.Logic.{_≢_, inl}
+use mathlib.Core.Bool.{Bool, true, false}
 use mathlib.Core.List.{List, [], _∷_, _++_, append-nil, List·Memᴰ·not-nil}
-use native.Mathlib.Decide.{ℕ-discrete}
 use native.Mathlib.Omega.{arith}
-use borrow.Author.Tests.{eqb-true, eqb-false, eq-eqb, leb-true, leb-false, le-leb, not-true, not-false}
-use lib.Dec.{eqb, leb}
-use lib.ListN.{length, take, length-take}
-use Rattle.limits.specs.Limits.{mostBases, mostLinks}
+use borrow.Author.Tests.{eqb-true, leb-true}
+use lib.ListN.{length, length-take}
+use Rattle.limits.specs.Limits.{mostBases}
 use Rattle.lists.specs.Choice.{choose, and, or}
-use Rattle.lists.specs.Choice.Laws.{choose-ind, and-true, and-both, or-true, or-false}
-use Rattle.lists.specs.Lists.{member, distinct, sort, padTo}
+use Rattle.lists.specs.Choice.Laws.{choose-ind, and-true, clash}
+use Rattle.lists.specs.Lists.{sort}
 use Rattle.lists.specs.Lists.Laws.{pad-front}
 use Rattle.lists.specs.Lists.Sorted.{length-sort}
 use Rattle.counting.specs.Sums.{bit}
 use Rattle.frame.specs.Message.{Message, announce, verify, correctFinal, verifyFinal, kindOf, idsOf, holdsOne, expected, Valid}
 use Rattle.protocol.specs.declared.Link.{Link}
 use Rattle.protocol.specs.declared.Base.{Base}
-use Rattle.protocol.specs.Links.{announces, verifiesOf, holdsVerify, used, full}
-use Rattle.protocol.specs.Links.Laws.{announces-some, announces-none, some-announces, count-used}
-use Rattle.protocol.specs.Record.{linkAt, certified, listTally, correctCount, finalList, links}
+use Rattle.protocol.specs.Links.{announces, verifiesOf, used, full}
+use Rattle.protocol.specs.Links.Laws.{announces-some, count-used}
+use Rattle.protocol.specs.Record.{linkAt, certified, finalList, links}
 use Rattle.protocol.specs.Record.Memory.{Sized}
-use Rattle.protocol.specs.Sound.Laws.{LinkParts, link-sound, held-list}
-use Rattle.protocol.specs.Sound.Running.{Runs, runs-admitted, takes-runs}
-use Rattle.protocol.specs.Steps.{Done, discards, accepts, withLink, withSent, withState, withFinal, withAnnounce, withVerify, withVector, primeHolds, secondaryHolds, stops, primeCheck, secondaryCheck, onAnnounce, onVerify, votes, vote, onCorrectFinal, onVerifyFinal, onMessage}
-use Rattle.protocol.specs.Steps.Cases.{Takes, takesAnnounce, takesVerify, takesCorrect, takesAndVotes, takesVerifyFinal, holding}
-use Rattle.protocol.specs.Steps.Laws.{SameSetting, takes-rest}
-use Rattle.protocol.specs.Agreement.Cases.{true-not-false, impossible}
-use Rattle.protocol.specs.Agreement.Views.{View, Certified, corrects, Prime, Secondary, Lists}
+use Rattle.protocol.specs.Sound.Laws.{LinkParts, link-sound}
+use Rattle.protocol.specs.Sound.Running.{Runs, runs-admitted}
+use Rattle.protocol.specs.Steps.{Done, discards, accepts, withSent, withState, withFinal, primeHolds, secondaryHolds, stops, primeCheck, secondaryCheck, vote}
+use Rattle.protocol.specs.Steps.Laws.{SameSetting}
+use Rattle.protocol.specs.Agreement.Views.{View, Prime, Secondary, Lists}
 use Rattle.protocol.specs.Agreement.Calls.{Input, arrival, Settled, Full, Taken, before, Call}
 use Rattle.protocol.specs.Agreement.Growth.{grows-not}
 use Rattle.protocol.specs.Agreement.Storing.{Vector, ListOf, Stored}
-use Rattle.protocol.specs.Agreement.Accepting.{Telling, tells-name, tells-vote, tells-nothing, Ending, runs-on, ends-prime, ends-secondary, closing, closing-secondary, secondary-closing, accepted-call}
+use Rattle.protocol.specs.Agreement.Accepting.{Telling, Ending, runs-on, ends-prime, ends-secondary, closing, closing-secondary, secondary-closing, accepted-call}
 use Rattle.protocol.specs.Agreement.Observers.{placeOf, linkFor, view}
 use Rattle.protocol.specs.Agreement.Observers.Places.{place-inside, link-other}
-use Rattle.protocol.specs.Agreement.Observers.Counts.{Inside, corrects-seen}
-use Rattle.protocol.specs.Agreement.Observers.Names.{named-other, certified-named}
+use Rattle.protocol.specs.Agreement.Observers.Counts.{Inside}
+use Rattle.protocol.specs.Agreement.Observers.Names.{named-other}
 use Rattle.protocol.specs.Agreement.Observers.Checks.{secondary-seen, seen-secondary, prime-seen, seen-prime, sorted-lists}
-use Rattle.protocol.specs.Agreement.Observers.LinkChanges.{announce-changes, verify-changes, correct-changes, vote-changes, held-correct, held-vote}
-use Rattle.protocol.specs.Agreement.Observers.Stores.{seen-verify, seen-correct, seen-vote, changed-stored}
 
 -- ---- a call that changes nothing
 pub unchanged-call : (n t me own : ℕ) (i : Input) (b : View) → Settled n t me b → 1 ≤ b .state → ((x : ℕ) (m : Message) → i ≡ arrival x m → b .state ≤ 1 → Taken n b b x m) → Call n t me own i b b []
 unchanged-call n t me own i b settled on taken = record {
   grows = grows-not b;
+  runs = on;
   settled = settled;
   heard = λ x m ne h. inl h;
   taken = taken;
@@ -174,7 +169,7 @@ module _ (me : ℕ) (b : Base) (inside : me < b .n) (R : Runs b) (S : Sized b) (
     unfolding secondaryCheck
     secondary-call v list vector same-final = choose-ind (CallOf m) (secondaryHolds c v)
         (λ e. stops-call 3 v (valid-length n m v list w) (ends-secondary v (back v (secondary-seen me c Hc v e))))
-        (λ e. goes-on (λ h. absurd (h vector)) (λ u h P. true-not-false (seen-secondary me c Hc v (there v (subst (Secondary n t (view me c₀)) (sym (only u h)) P))) e) same-final)
+        (λ e. goes-on (λ h. absurd (h vector)) (λ u h P. clash (seen-secondary me c Hc v (there v (subst (Secondary n t (view me c₀)) (sym (only u h)) P))) e) same-final)
       where
         only : (u : List ℕ) → ListOf m u → v ≡ u
         only u h = go m list h
@@ -201,7 +196,7 @@ module _ (me : ℕ) (b : Base) (inside : me < b .n) (R : Runs b) (S : Sized b) (
     unfolding primeCheck
     prime-call = choose-ind (CallOf m) (primeHolds c)
         (λ e. stops-call m w c c stored same Rc (λ s p f. refl) said T 2 (sort (certified c)) (whole e) (ends-prime (sort (certified c)) (to-net (prime-seen me c Hp (Rc .standing .own) e)) (lists e)))
-        (λ e. goes-on m w c c stored same Rc (λ s p f. refl) said T (λ h P. true-not-false (seen-prime me c Hp (from-net P)) e) (λ v h. absurd (no-list v h)) refl)
+        (λ e. goes-on m w c c stored same Rc (λ s p f. refl) said T (λ h P. clash (seen-prime me c Hp (from-net P)) e) (λ v h. absurd (no-list v h)) refl)
       where
         to-net : Prime (c .n) (c .t) me (view me c) → Prime n t me (view me c)
         to-net P = subst₂ (λ a d. Prime a d me (view me c)) (same .n) (same .t) P

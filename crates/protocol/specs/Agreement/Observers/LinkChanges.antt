@@ -1,5 +1,5 @@
 -- One link takes a message in, for each kind: what it held stays, but that a Correct-Final replaces a Verify-Final, and nothing is new but the message.
-use Prim.Native.Nat.{ℕ, suc, _+_, _≤_, _<_}
+use Prim.Native.Nat.{ℕ, _≤_, _<_}
 use mathlib.Core.Path.{_≡_, refl, sym, ap, _∙_}
 use mathlib.Core.Logic.{_≢_, _⊎_, inl, inr}
 use mathlib.Core.Bool.{true, false}
@@ -13,7 +13,7 @@ use lib.Seq.{take-suc-set}
 use Rattle.limits.specs.Limits.{mostBases}
 use Rattle.lists.specs.Choice.{and}
 use Rattle.lists.specs.Choice.Laws.{and-true}
-use Rattle.lists.specs.Lists.{member, padTo, sameList}
+use Rattle.lists.specs.Lists.{member, sameList}
 use Rattle.lists.specs.Lists.Laws.{pad-front}
 use Rattle.lists.specs.Lists.Order.{member-front, member-last, member-snoc-cases}
 use Rattle.lists.specs.Lists.Same.{same-equal, same-self}
@@ -22,7 +22,6 @@ use Rattle.protocol.specs.declared.Link.{Link}
 use Rattle.protocol.specs.Links.{announces, verifiesOf, holdsVerify, holdsVector, holdsCorrect, holdsVerifyFinal}
 use Rattle.protocol.specs.Links.Laws.{announces-none}
 use Rattle.protocol.specs.Steps.{withAnnounce, withVerify, withVector}
-use Rattle.protocol.specs.Agreement.Cases.{impossible}
 
 -- a link holds a message, in a net of n bases
 abbrev pub LinkHolds : ℕ → Link → Message → Type 0

@@ -1,37 +1,37 @@
 -- A message that arrives at a running base is a call as the argument knows it, for each of the four kinds of document 01.
-use Prim.Native.Nat.{ℕ, _+_, _-_, _≤_, _<_}
-use mathlib.Core.Path.{_≡_, refl, sym, ap, _∙_, subst}
-use mathlib.Core.Logic.{_≢_, _⊎_, inl, inr}
+use Prim.Native.Nat.{ℕ, _-_, _≤_, _<_}
+use mathlib.Core.Path.{_≡_, refl, _∙_, subst}
+use mathlib.Core.Logic.{_≢_, inl, inr}
 use mathlib.Core.Bool.{Bool, true, false, not}
 use mathlib.Core.List.{List, [], _∷_}
 use native.Mathlib.Omega.{arith}
-use borrow.Author.Tests.{eqb-true, eqb-false, eq-eqb, leb-true, leb-false, le-leb, not-true, not-false}
+use borrow.Author.Tests.{eqb-true, eqb-false, eq-eqb, leb-true, leb-false, not-true, not-false}
 use lib.Dec.{eqb, leb}
 use lib.ListN.{length, take}
 use Rattle.lists.specs.Choice.{and, or}
-use Rattle.lists.specs.Choice.Laws.{choose-ind, and-true, and-both, or-true, or-false}
+use Rattle.lists.specs.Choice.Laws.{choose-ind, and-true, and-both, or-true, or-false, clash}
 use Rattle.lists.specs.Lists.{nonzero, member}
-use Rattle.frame.specs.Message.{Message, announce, verify, correctFinal, verifyFinal, kindOf, idsOf, expected, Valid}
+use Rattle.frame.specs.Message.{Message, announce, verify, correctFinal, verifyFinal, idsOf, Valid}
 use Rattle.protocol.specs.declared.Link.{Link}
 use Rattle.protocol.specs.declared.Base.{Base}
-use Rattle.protocol.specs.Links.{announces, holdsVerify, full, used}
+use Rattle.protocol.specs.Links.{announces, holdsVerify, full}
 use Rattle.protocol.specs.Links.Laws.{announces-some, count-used}
 use Rattle.protocol.specs.Record.{linkAt, certified, correctCount, finalList}
 use Rattle.protocol.specs.Record.Memory.{Sized}
-use Rattle.protocol.specs.Sound.Laws.{LinkParts, link-sound, held-list}
+use Rattle.protocol.specs.Sound.Laws.{link-sound, held-list}
 use Rattle.protocol.specs.Sound.Changes.{not-full}
 use Rattle.protocol.specs.Sound.Running.{Runs, runs-admitted, takes-runs}
-use Rattle.protocol.specs.Steps.{Done, discards, accepts, withLink, withSent, withAnnounce, withVerify, withVector, primeCheck, secondaryCheck, onAnnounce, onVerify, votes, vote, onCorrectFinal, onVerifyFinal, onMessage}
+use Rattle.protocol.specs.Steps.{Done, accepts, withLink, withSent, withAnnounce, withVerify, withVector, primeCheck, secondaryCheck, onAnnounce, onVerify, votes, vote, onCorrectFinal, onVerifyFinal, onMessage}
 use Rattle.protocol.specs.Steps.Cases.{Takes, takesAnnounce, takesVerify, takesCorrect, takesAndVotes, takesVerifyFinal, holding}
 use Rattle.protocol.specs.Steps.Laws.{takes-rest}
-use Rattle.protocol.specs.Agreement.Cases.{true-not-false, impossible}
+use Rattle.protocol.specs.Agreement.Cases.{impossible}
 use Rattle.protocol.specs.Agreement.Views.{View, corrects}
 use Rattle.protocol.specs.Agreement.Calls.{arrival, Settled, Taken, Call}
-use Rattle.protocol.specs.Agreement.Storing.{ListOf, Stored}
-use Rattle.protocol.specs.Agreement.Accepting.{Telling, tells-name, tells-vote, tells-nothing, closing}
-use Rattle.protocol.specs.Agreement.Observers.{placeOf, linkFor, view}
+use Rattle.protocol.specs.Agreement.Storing.{Stored}
+use Rattle.protocol.specs.Agreement.Accepting.{Telling, tells-name, tells-vote, tells-nothing}
+use Rattle.protocol.specs.Agreement.Observers.{placeOf, view}
 use Rattle.protocol.specs.Agreement.Observers.Places.{place-inside}
-use Rattle.protocol.specs.Agreement.Observers.Counts.{Inside, corrects-seen}
+use Rattle.protocol.specs.Agreement.Observers.Counts.{corrects-seen}
 use Rattle.protocol.specs.Agreement.Observers.Names.{named-other, certified-named}
 use Rattle.protocol.specs.Agreement.Observers.LinkChanges.{announce-changes, verify-changes, correct-changes, vote-changes, held-correct, held-vote}
 use Rattle.protocol.specs.Agreement.Observers.Stores.{seen-verify, seen-correct, seen-vote, changed-stored}
@@ -134,7 +134,7 @@ module _ (me : ℕ) (b : Base) (inside : me < b .n) (R : Runs b) (S : Sized b) (
         few u q unsent = let r : v ≡ u = cc in subst (λ z. corrects n (view me holds) z ≤ 1) r (go (leb 2 (correctCount holds v)) refl)
           where
             go : (t : Bool) → leb 2 (correctCount holds v) ≡ t → corrects n (view me holds) v ≤ 1
-            go true f = let both : votes holds v ≡ true = unfold votes withLink in and-both (eq-eqb (b .sent) 0 unsent) f in absurd (true-not-false both e)
+            go true f = let both : votes holds v ≡ true = unfold votes withLink in and-both (eq-eqb (b .sent) 0 unsent) f in clash both e
             go false f = omega (arith, corrects-now, leb-false 2 (correctCount holds v) f)
 
     voting : link .held ≢ 3 → votes holds v ≡ true → CallOf (correctFinal v) (secondaryCheck (withSent holds) v (verifyFinal v ∷ []))

@@ -2,34 +2,32 @@
 -- are certified exactly if it has one for everybody.
 use Prim.Native.Nat.{ℕ, zero, suc, _+_, _-_, _≤_, _<_}
 use mathlib.Core.Path.{_≡_, refl, sym, ap, _∙_, subst}
-use mathlib.Core.Logic.{_≢_, _⊎_, inl, inr}
-use mathlib.Core.Bool.{Bool, true, false}
-use mathlib.Core.List.{List, [], _∷_}
+use mathlib.Core.Logic.{_≢_, inl, inr}
+use mathlib.Core.Bool.{true, false}
+use mathlib.Core.List.{_∷_}
 use native.Mathlib.Nat.{le-refl}
 use native.Mathlib.Decide.{ℕ-discrete}
 use native.Mathlib.Omega.{arith}
 use borrow.Author.Tests.{eq-eqb, ne-eqb}
-use lib.Dec.{eqb}
 use lib.ListN.{length}
-use Rattle.lists.specs.Choice.{choose}
-use Rattle.lists.specs.Choice.Laws.{choose-yes, choose-no}
+use Rattle.lists.specs.Choice.Laws.{choose-yes, choose-no, clash}
 use Rattle.lists.specs.Lists.{member, distinct, sumOver}
-use Rattle.lists.specs.Lists.Order.{member-head, member-tail, member-none, member-cases}
+use Rattle.lists.specs.Lists.Order.{member-none}
+use Rattle.lists.specs.Lists.Sets.{member-head, member-tail, member-cases}
 use Rattle.lists.specs.Lists.Places.{distinct-parts}
 use Rattle.counting.specs.Sums.{sum}
 use Rattle.counting.specs.Sums.Laws.{sum-cong}
 use Rattle.counting.specs.Gap.{skip, sum-skip}
 use Rattle.protocol.specs.declared.Link.{Link}
 use Rattle.protocol.specs.declared.Base.{Base}
-use Rattle.protocol.specs.Links.{noLink, announces}
+use Rattle.protocol.specs.Links.{announces}
 use Rattle.protocol.specs.Links.Laws.{announces-some, announces-none, some-announces}
 use Rattle.protocol.specs.Record.{linkAt, linkCount, announced, certified}
 use Rattle.protocol.specs.Record.Laws.{link-count}
 use Rattle.protocol.specs.Record.Announced.{announced-ind, announced-next, length-announced}
-use Rattle.protocol.specs.Agreement.Cases.{true-or-false, true-not-false}
-use Rattle.protocol.specs.Agreement.Views.{View, Certified}
+use Rattle.protocol.specs.Agreement.Views.{Certified}
 use Rattle.protocol.specs.Agreement.Observers.{placeOf, linkFor, view}
-use Rattle.protocol.specs.Agreement.Observers.Places.{place-skip, skip-place, skip-other, skip-inside, place-inside, place-apart, link-own, link-other, link-skip}
+use Rattle.protocol.specs.Agreement.Observers.Places.{place-skip, skip-other, skip-inside, place-inside, place-apart, link-other}
 use Rattle.protocol.specs.Agreement.Observers.Counts.{Inside, size}
 
 -- ---- the identifiers announced at places
@@ -40,7 +38,7 @@ announced-has at k i = announced-ind (λ j l. i < j → announces (at i) ≡ tru
       | yes q ↦ rw q (member-head (at j .announce) (announced j at))
       | no q ↦ member-tail (at i .announce) (at j .announce) (announced j at) (ih (omega arith) e)
     ])
-    (λ j silent ih h e. elim (ℕ-discrete i j) [ yes q ↦ absurd (true-not-false e (ap (λ z. announces (at z)) q ∙ silent)) | no q ↦ ih (omega arith) e ])
+    (λ j silent ih h e. elim (ℕ-discrete i j) [ yes q ↦ clash e (ap (λ z. announces (at z)) q ∙ silent) | no q ↦ ih (omega arith) e ])
     k
 
 pub announced-where : (at : ℕ → Link) (k g : ℕ) → member g (announced k at) ≡ true → (i : ℕ) × (i < k) × (at i .announce ≡ g) × (announces (at i) ≡ true)
@@ -56,7 +54,7 @@ announced-apart at k i j = announced-ind (λ m l. distinct l ≡ true → i < m 
     (λ d li lj says e. absurd (omega arith))
     (λ m says-m ih d li lj says e. last m says-m d li lj says e (ℕ-discrete i m) (ℕ-discrete j m) (ih (distinct-parts (at m .announce) (announced m at) d .1)))
     (λ m silent ih d li lj says e. elim (ℕ-discrete i m) [
-      | yes q ↦ absurd (true-not-false says (ap (λ z. announces (at z)) q ∙ silent))
+      | yes q ↦ clash says (ap (λ z. announces (at z)) q ∙ silent)
       | no q ↦ elim (ℕ-discrete j m) [
         | yes r ↦ absurd (let z = announces-some (at i) says in let y = announces-none (at m) silent in omega (arith, ap (λ z. at z .announce) r))
         | no r ↦ ih d (omega arith) (omega arith) says e
@@ -65,7 +63,7 @@ announced-apart at k i j = announced-ind (λ m l. distinct l ≡ true → i < m 
     k
   where
     again : (m i : ℕ) → distinct (at m .announce ∷ announced m at) ≡ true → i < m → announces (at i) ≡ true → at i .announce ≡ at m .announce → ⊥
-    again m i d l says e = true-not-false (subst (λ g. member g (announced m at) ≡ true) e (announced-has at m i l says)) (distinct-parts (at m .announce) (announced m at) d .0)
+    again m i d l says e = clash (subst (λ g. member g (announced m at) ≡ true) e (announced-has at m i l says)) (distinct-parts (at m .announce) (announced m at) d .0)
 
     same : (m j : ℕ) → announces (at m) ≡ true → at m .announce ≡ at j .announce → announces (at j) ≡ true
     same m j says e = some-announces (at j) (omega (arith, announces-some (at m) says))
@@ -136,7 +134,7 @@ module _ (me : ℕ) (b : Base) (H : Inside me b) where
       parts = distinct-parts (b .own) (announced (linkCount b) (linkAt b)) d
 
       own-again : (z : ℕ) → z < b .n → z ≢ me → 1 ≤ view me b .named z → view me b .named z ≡ b .own → ⊥
-      own-again z l ne some q = true-not-false
+      own-again z l ne some q = clash
           (subst (λ g. member g (announced (linkCount b) (linkAt b)) ≡ true) (sym (named-other me b z ne) ∙ q)
           (announced-has (linkAt b) (linkCount b) (placeOf me z) (at-place z l ne) (some-announces (linkAt b (placeOf me z)) (omega (arith, named-other me b z ne)))))
           (parts .0)

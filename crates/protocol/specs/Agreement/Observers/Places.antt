@@ -1,14 +1,12 @@
 -- The numbering of links, from 0: the place of the link to x, and x as the i-th base that is not the base itself, undo each other. So the links of a base and
 -- the other bases of the net are the same in another order.
-use Prim.Native.Nat.{ℕ, suc, _+_, _-_, _≤_, _<_}
+use Prim.Native.Nat.{ℕ, suc, _-_, _≤_, _<_}
 use mathlib.Core.Path.{_≡_, refl, sym, ap, _∙_, subst}
 use mathlib.Core.Logic.{_≢_}
 use native.Mathlib.Decide.{decLt, ℕ-discrete}
 use native.Mathlib.Omega.{arith}
 use borrow.Author.Tests.{lt-ltb, le-ltb, eq-eqb, ne-eqb}
-use lib.Dec.{eqb}
 use lib.ListN.{length}
-use Rattle.lists.specs.Choice.{choose}
 use Rattle.lists.specs.Choice.Laws.{choose-yes, choose-no}
 use Rattle.counting.specs.Gap.{skip, skip-low, skip-high}
 use Rattle.protocol.specs.declared.Link.{Link}
@@ -18,7 +16,7 @@ use Rattle.protocol.specs.Record.{linkAt}
 use Rattle.protocol.specs.Numbering.{linkTo}
 use Rattle.protocol.specs.Steps.{withLink}
 use Rattle.protocol.specs.Steps.Laws.{stored-same, stored-other}
-use Rattle.protocol.specs.Agreement.Observers.{placeOf, linkFor, view}
+use Rattle.protocol.specs.Agreement.Observers.{placeOf, linkFor}
 
 -- ---- places
 place-low : (me x : ℕ) → x < me → placeOf me x ≡ x

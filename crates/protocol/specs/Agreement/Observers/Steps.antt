@@ -1,16 +1,14 @@
 -- The start and the arrival of document 01, on a record that is not turned down, are calls as the argument knows them; and a record that is not turned down is
 -- sound as the argument asks. This is all that the argument takes from records and steps.
-use Prim.Native.Nat.{ℕ, _+_, _-_, _≤_, _<_}
+use Prim.Native.Nat.{ℕ, _≤_, _<_}
 use mathlib.Core.Path.{_≡_, refl, sym, ap, _∙_, subst}
-use mathlib.Core.Logic.{_≢_, _⊎_, inl, inr}
-use mathlib.Core.Bool.{Bool, true, false}
-use mathlib.Core.List.{List, [], _∷_, _++_}
+use mathlib.Core.Logic.{_≢_}
+use mathlib.Core.Bool.{true, false}
+use mathlib.Core.List.{List, [], _∷_}
 use native.Mathlib.Decide.{ℕ-discrete}
 use native.Mathlib.Omega.{arith}
 use borrow.Author.Tests.{eqb-true, eqb-false, leb-true, ne-eqb}
-use lib.Dec.{eqb}
-use lib.ListN.{length, take}
-use Rattle.limits.specs.Limits.{mostLinks}
+use lib.ListN.{take}
 use Rattle.lists.specs.Choice.{and}
 use Rattle.lists.specs.Lists.{member, distinct, sameList}
 use Rattle.frame.specs.Message.{Message, announce, verify, correctFinal, verifyFinal, Valid}
@@ -20,14 +18,15 @@ use Rattle.protocol.specs.Links.{noLink, verifiesOf, holdsVerify, holdsV
 use Rattle.protocol.specs.Record.{linkAt, finalList}
 use Rattle.protocol.specs.Record.Memory.{Sized}
 use Rattle.protocol.specs.Sound.{idle, stopped, recordRefusal}
-use Rattle.protocol.specs.Sound.Laws.{Admitted, record-passed, SoundParts, sound-parts, EmptyParts, idle-unsent, idle-place, LinkParts, link-sound}
-use Rattle.protocol.specs.Sound.Running.{Runs, begun-runs, admitted-runs}
+use Rattle.protocol.specs.Sound.Laws.{Admitted, record-passed, SoundParts, sound-parts, EmptyParts, idle-unsent, idle-place, link-sound}
+use Rattle.protocol.specs.Sound.Running.{begun-runs, admitted-runs}
 use Rattle.protocol.specs.Steps.{Done, discards, accepts, withState, onMessage, begins, startStep, arrivalStep}
 use Rattle.protocol.specs.Steps.Cases.{begun, afterStart, start-step-cases, arrival-step-cases}
 use Rattle.protocol.specs.Steps.Memory.{begun-sized}
-use Rattle.protocol.specs.Agreement.Cases.{true-not-false, impossible}
-use Rattle.protocol.specs.Agreement.Views.{View, Holds}
-use Rattle.protocol.specs.Agreement.Calls.{Input, start, arrival, SoundView, Settled, Call}
+use Rattle.lists.specs.Choice.Laws.{clash}
+use Rattle.protocol.specs.Agreement.Cases.{impossible}
+use Rattle.protocol.specs.Agreement.Views.{Holds}
+use Rattle.protocol.specs.Agreement.Calls.{start, arrival, SoundView, Settled, Call}
 use Rattle.protocol.specs.Agreement.Accepting.{closing}
 use Rattle.protocol.specs.Agreement.Starting.{Blank, started, begins-call, start-then-call}
 use Rattle.protocol.specs.Agreement.Observers.{placeOf, linkFor, view}
@@ -96,9 +95,9 @@ module _ (me : ℕ) (b : Base) (inside : me < b .n) (e : recordRefusal b ≡ 0) 
 
       nothing : (x : ℕ) (m : Message) → x < b .n → x ≢ me → Holds (view me b) x m → ⊥
       nothing x (announce g) l ne h = omega (arith, h .0, h .1, named-other me b x ne, empty x l ne .announce)
-      nothing x (verify g) l ne h = true-not-false (sym (seen-verify me b x ne g) ∙ h) (none-verified (linkAt b (placeOf me x)) g (empty x l ne .count))
-      nothing x (correctFinal v) l ne h = true-not-false (sym (seen-correct me b x ne v) ∙ h) (unfold holdsCorrect in none-held (b .n) 3 (linkAt b (placeOf me x)) v (omega (arith, empty x l ne .held)))
-      nothing x (verifyFinal v) l ne h = true-not-false (sym (seen-vote me b x ne v) ∙ h) (unfold holdsVerifyFinal in none-held (b .n) 4 (linkAt b (placeOf me x)) v (omega (arith, empty x l ne .held)))
+      nothing x (verify g) l ne h = clash (sym (seen-verify me b x ne g) ∙ h) (none-verified (linkAt b (placeOf me x)) g (empty x l ne .count))
+      nothing x (correctFinal v) l ne h = clash (sym (seen-correct me b x ne v) ∙ h) (unfold holdsCorrect in none-held (b .n) 3 (linkAt b (placeOf me x)) v (omega (arith, empty x l ne .held)))
+      nothing x (verifyFinal v) l ne h = clash (sym (seen-vote me b x ne v) ∙ h) (unfold holdsVerifyFinal in none-held (b .n) 4 (linkAt b (placeOf me x)) v (omega (arith, empty x l ne .held)))
 
   -- ---- the steps
   begun-view : view me (begun b) ≡ started (view me b)

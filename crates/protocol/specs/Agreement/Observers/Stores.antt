@@ -2,7 +2,7 @@
 use Prim.Native.Nat.{ℕ, _≤_, _<_}
 use mathlib.Core.Path.{_≡_, refl, sym, ap, _∙_, subst}
 use mathlib.Core.Logic.{_≢_, _⊎_, inl, inr}
-use mathlib.Core.Bool.{Bool, true, false}
+use mathlib.Core.Bool.{Bool, true}
 use mathlib.Core.List.{List}
 use native.Mathlib.Nat.{le-refl}
 use borrow.Author.Tests.{ne-eqb}
@@ -20,7 +20,7 @@ use Rattle.protocol.specs.Steps.{withLink}
 use Rattle.protocol.specs.Agreement.Views.{View, Holds}
 use Rattle.protocol.specs.Agreement.Calls.{Grows}
 use Rattle.protocol.specs.Agreement.Storing.{Stored}
-use Rattle.protocol.specs.Agreement.Observers.{placeOf, linkFor, view}
+use Rattle.protocol.specs.Agreement.Observers.{placeOf, view}
 use Rattle.protocol.specs.Agreement.Observers.Places.{link-other, link-stored}
 use Rattle.protocol.specs.Agreement.Observers.Names.{named-other}
 use Rattle.protocol.specs.Agreement.Observers.LinkChanges.{LinkHolds, Changes}
