@@ -3,3 +3,4 @@
 pub mod Faulty
 pub mod Truth
 pub mod Frames
+pub mod Follows

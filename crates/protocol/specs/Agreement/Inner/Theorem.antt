@@ -81,6 +81,19 @@ module _ (n t : ℕ) (faulty : ℕ → ℕ → ℕ) (id : ℕ → ℕ) (truth : 
               same : (a k : ℕ) → a ≡ x → broadcastAt (N .log x) k ≡ m → arrival x m ≡ arrival a (broadcastAt (N .log a) k)
               same a k e f = rw (e, f)
 
+  -- a base that was called runs or has stopped
+  pub start-runs : {N : Group} → Reached n t faulty id N → (y : ℕ) → y < n → 1 ≤ startStep (N .base y) .base .state
+  start-runs {N} R y y-in = go (stands R)
+    where
+      go : Stands n t faulty id truth N → 1 ≤ startStep (N .base y) .base .state
+      go S = unfold view in start-moves n t y y-in (id y) (N .base y) (S .member y y-in) (unfold seen in S .invariant .settled y y-in) .call .runs
+
+  pub arrival-runs : {N : Group} → Reached n t faulty id N → (x y : ℕ) (m : Message) → x < n → y < n → x ≢ y → Valid n m → 1 ≤ arrivalStep (N .base y) (placeOf y x) m .base .state
+  arrival-runs {N} R x y m x-in y-in ne w = go (stands R)
+    where
+      go : Stands n t faulty id truth N → 1 ≤ arrivalStep (N .base y) (placeOf y x) m .base .state
+      go S = unfold view in arrival-moves n t y y-in (id y) (N .base y) (S .member y y-in) (unfold seen in S .invariant .settled y y-in) x x-in ne m w .call .runs
+
   pub inner : {N : Group} → Reached n t faulty id N → Agrees n faulty truth N
   inner {N} R = agrees (stands R .invariant)
     where
