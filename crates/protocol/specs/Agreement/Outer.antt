@@ -4,3 +4,5 @@ pub mod Faulty
 pub mod Truth
 pub mod Frames
 pub mod Follows
+pub mod History
+pub mod Waiting

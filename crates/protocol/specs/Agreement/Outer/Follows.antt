@@ -2,29 +2,28 @@
 -- group by a start or an arrival, and the net follows the group so moved. On a good link what arrives is a carry, since 18 turns a forgery down, and what a
 -- carry names was broadcast, since 16 turns it down otherwise.
 use Prim.Native.Nat.{ℕ, zero, suc, _+_, _-_, _≤_, _<_}
-use mathlib.Core.Path.{_≡_, refl, sym, ap, ap₂, _∙_, subst, subst₂}
+use mathlib.Core.Path.{_≡_, refl, sym, ap, ap₂, _∙_, subst}
 use mathlib.Core.Logic.{_≢_, _⊎_, inl, inr}
 use mathlib.Core.Bool.{Bool, true, false}
-use mathlib.Core.List.{List, [], _∷_, _++_, map}
+use mathlib.Core.List.{List, [], _++_, map}
 use native.Mathlib.Decide.{ℕ-discrete}
 use native.Mathlib.Omega.{arith}
 use borrow.Author.Tests.{eqb-true, eqb-false, ltb-false}
 use lib.Dec.{eqb, ltb}
 use lib.ListN.{length, getD}
 use Rattle.limits.specs.Refusals.{NetSize}
-use Rattle.lists.specs.Choice.{choose, and, or, first}
+use Rattle.lists.specs.Choice.{and, or}
 use Rattle.lists.specs.Choice.Laws.{passed, first-passed, or-true, or-false, and-true, clash}
 use Rattle.lists.specs.Lists.{Below}
 use Rattle.frame.specs.Message.{Message, Valid}
 use Rattle.frame.specs.Encoding.{encode}
 use Rattle.frame.specs.Reading.{burstRefusal, messageOf}
 use Rattle.protocol.specs.declared.Base.{Base}
-use Rattle.protocol.specs.Sound.{recordRefusal}
-use Rattle.protocol.specs.Steps.{Done, startStep, start, arrivalStep, linkRefusal, outputRefusal, arrivalRefusal, arrival}
+use Rattle.protocol.specs.Steps.{Done, startStep, start, arrivalStep, arrivalRefusal, arrival}
 use Rattle.protocol.specs.Steps.Cases.{start-answered, arrival-answered, burst-valid}
 use Rattle.protocol.specs.Numbering.{linkTo}
 use Rattle.protocol.specs.Net.{Net, Pair, good, Event, starts, carry, forge, at, broadcast, call, eventRefusal, callRefusal, refusal, replaced, carriedAfter, settled}
-use Rattle.protocol.specs.Agreement.{BaseOf, Proper}
+use Rattle.protocol.specs.Agreement.{Proper}
 use Rattle.protocol.specs.Agreement.Views.{Said}
 use Rattle.protocol.specs.Agreement.Invariant.{Premises, broadcastAt}
 use Rattle.protocol.specs.Agreement.Observers.{placeOf}

@@ -1,10 +1,10 @@
 -- The log of a base in frames, against the log in messages: the frame of each number is the encoding of the message of that number, it reads back as that
 -- message, and a frame of kind 3 is there exactly if a Correct-Final was said.
-use Prim.Native.Nat.{ℕ, zero, suc, _+_, _≤_, _<_}
-use mathlib.Core.Path.{_≡_, refl, sym, ap, _∙_, subst}
+use Prim.Native.Nat.{ℕ, zero, suc, _≤_, _<_}
+use mathlib.Core.Path.{_≡_, refl, sym, ap, _∙_}
 use mathlib.Core.Logic.{_⊎_, inl, inr}
 use mathlib.Core.Bool.{Bool, true, false}
-use mathlib.Core.List.{List, [], _∷_, _++_, map, List·Memᴰ, List·Memᴰ·head, List·Memᴰ·tail, List·Memᴰ·not-nil}
+use mathlib.Core.List.{List, [], _∷_, _++_, map, List·Memᴰ·head, List·Memᴰ·tail}
 use native.Mathlib.Omega.{arith}
 use borrow.Author.Tests.{eqb-true, eq-eqb}
 use lib.Dec.{eqb}
@@ -15,7 +15,7 @@ use Rattle.lists.specs.Choice.{or}
 use Rattle.lists.specs.Choice.Laws.{or-true}
 use Rattle.frame.specs.Message.{Message, announce, verify, correctFinal, verifyFinal, kindOf, idsOf, Valid}
 use Rattle.frame.specs.Message.Laws.{expected-range}
-use Rattle.frame.specs.Encoding.{encode, frameOf}
+use Rattle.frame.specs.Encoding.{encode}
 use Rattle.frame.specs.Encoding.Laws.{length-frame}
 use Rattle.frame.specs.Reading.{kindByte, messageOf}
 use Rattle.frame.specs.Reading.Laws.{kind-is}

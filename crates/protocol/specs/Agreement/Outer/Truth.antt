@@ -1,14 +1,13 @@
 -- The true identifiers, sorted: a list that a Correct-Final may hold, with the same leader as the identifiers in any order.
-use Prim.Native.Nat.{ℕ, zero, suc, _≤_, _<_}
-use mathlib.Core.Path.{_≡_, refl, sym, ap, _∙_, subst}
+use Prim.Native.Nat.{ℕ, zero, suc, _<_}
+use mathlib.Core.Path.{_≡_, refl, sym, ap, _∙_}
 use mathlib.Core.Logic.{_⊎_, inl, inr}
-use mathlib.Core.Bool.{Bool, true, false, not}
+use mathlib.Core.Bool.{true, false, not}
 use mathlib.Core.List.{List, [], _∷_}
 use native.Mathlib.Nat.{le-refl}
 use native.Mathlib.Decide.{ℕ-discrete}
 use native.Mathlib.Omega.{arith}
-use Rattle.lists.specs.Choice.{and}
-use Rattle.lists.specs.Choice.Laws.{and-both, clash}
+use Rattle.lists.specs.Choice.Laws.{and-both}
 use Rattle.lists.specs.Lists.{member, distinct, sort}
 use Rattle.lists.specs.Lists.Order.{member-none}
 use Rattle.lists.specs.Lists.Sets.{member-head, member-tail, member-cases}
