@@ -1,6 +1,6 @@
 -- Agreement (demand 3): one statement about a whole list of events, over the definitions of Net. Agreement/Theorem proves it; docs/AGREEMENT.md tells the
 -- argument in words and lists what a reader has to believe.
-use Prim.Native.Nat.{ℕ, zero, suc, _^_, _≤_, _<_}
+use Prim.Native.Nat.{ℕ, zero, suc, _+_, _^_, _≤_, _<_}
 use mathlib.Core.Path.{_≡_}
 use mathlib.Core.Logic.{_≢_, _⊎_}
 use mathlib.Core.Bool.{true, false}
@@ -9,11 +9,15 @@ use lib.ListN.{length}
 use Rattle.limits.specs.Limits.{mostFaulty}
 use Rattle.limits.specs.Refusals.{NetSize}
 use Rattle.lists.specs.Lists.{Below, sort}
+use Rattle.frame.specs.Message.{Message}
+use Rattle.frame.specs.Encoding.{encode}
+use Rattle.frame.specs.Reading.{burstRefusal, messageOf}
 use Rattle.protocol.specs.Record.{finalList}
 use Rattle.protocol.specs.Record.Memory.{Sized}
 use Rattle.protocol.specs.Sound.{idle, recordRefusal}
-use Rattle.protocol.specs.Steps.{leaderOf}
-use Rattle.protocol.specs.Net.{Net, Pair, Event, starts, carry, forge, run, started, hasStopped, waiting, leaderNamed}
+use Rattle.protocol.specs.Steps.{leaderOf, linkRefusal}
+use Rattle.protocol.specs.Numbering.{linkTo}
+use Rattle.protocol.specs.Net.{Net, Pair, Event, starts, carry, forge, run, started, hasStopped, waiting, leaderNamed, broadcast}
 pub mod Cases
 pub mod Views
 pub mod Suspects
@@ -92,3 +96,23 @@ pub record Agreed (n : ℕ) (faulty : List Pair) (W : Net) (es : List Event) : T
 -- the statement: after any list of events
 abbrev pub Agreement : Type 0
 Agreement = (n t : ℕ) (faulty : List Pair) (W : Net) (es : List Event) → Setting n t faulty → Fresh n t W → AllProper n es → Agreed n faulty W es
+
+-- ---- what holds besides, after any list of events
+-- a frame is read at a base of a net of n as the message that it encodes
+pub record ReadBack (n : ℕ) (frame : List ℕ) : Type 0 where
+  pub message : Message
+  pub written : frame ≡ encode message
+  pub accepted : burstRefusal n frame ≡ 0
+  pub reads : messageOf frame ≡ message
+
+pub record Orderly (n : ℕ) (faulty : List Pair) (W : Net) (es : List Event) : Type 0 where
+  -- "A base broadcasts at most n + 3 in its life."
+  pub life : (b : ℕ) → BaseOf n b → length (run faulty W es .log b) ≤ n + 3
+  -- no call on a base is turned down for its record, 1 to 4, or for its link, 5
+  pub records : (b : ℕ) → BaseOf n b → recordRefusal (run faulty W es .base b) ≡ 0
+  pub links : (a b : ℕ) → BaseOf n a → BaseOf n b → a ≢ b → linkRefusal (run faulty W es .base b .n) (linkTo b a) ≡ 0
+  -- every frame that was broadcast is read back, at every base, as the message that was sent
+  pub frames : (a b k : ℕ) → BaseOf n a → BaseOf n b → 1 ≤ k → k ≤ length (run faulty W es .log a) → ReadBack (run faulty W es .base b .n) (broadcast (run faulty W es) a k)
+
+abbrev pub Order : Type 0
+Order = (n t : ℕ) (faulty : List Pair) (W : Net) (es : List Event) → Setting n t faulty → Fresh n t W → AllProper n es → Orderly n faulty W es

@@ -20,6 +20,7 @@ use Rattle.protocol.specs.Agreement.Observers.{placeOf}
 pub mod Begins
 pub mod Moves
 pub mod Theorem
+pub mod Life
 
 -- the record of a base of the group: of the group's n and t, with its own identifier, sound, and as a record lies in memory
 pub record Member (n t own : ℕ) (b : Base) : Type 0 where

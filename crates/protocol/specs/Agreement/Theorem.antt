@@ -1,33 +1,40 @@
 -- Agreement (demand 3), proved: the net at the beginning follows a fresh group; it follows a group after any list of events; and there the inner theorem
 -- holds, whose stopped bases are those with a frame of kind 3 in their log.
-use Prim.Native.Nat.{ℕ, zero, suc, _+_, _*_, _≤_, _<_}
+use Prim.Native.Nat.{ℕ, zero, suc, _+_, _*_, _-_, _≤_, _<_}
 use mathlib.Core.Path.{_≡_, refl, sym, ap, _∙_, subst}
 use mathlib.Core.Logic.{_≢_, _⊎_, inr}
 use mathlib.Core.Bool.{true, false}
 use mathlib.Core.List.{List, []}
 use native.Mathlib.Omega.{arith}
+use borrow.Author.Tests.{le-ltb}
 use lib.ListN.{length}
+use Rattle.lists.specs.Choice.Laws.{passes, or-neither}
 use Rattle.lists.specs.Lists.{sort}
 use Rattle.frame.specs.Message.{Message, correctFinal, Valid}
 use Rattle.protocol.specs.declared.Base.{Base}
 use Rattle.protocol.specs.Record.{finalList}
 use Rattle.protocol.specs.Record.Memory.{Words}
-use Rattle.protocol.specs.Sound.{idle}
+use Rattle.protocol.specs.Sound.{idle, recordRefusal}
 use Rattle.protocol.specs.Sound.Laws.{record-passed, sound-parts, idle-place}
-use Rattle.protocol.specs.Steps.{leaderOf}
-use Rattle.protocol.specs.Net.{Net, Pair, Event, run, started, saysCorrect, hasStopped, waiting, leaderNamed}
-use Rattle.protocol.specs.Agreement.{BaseOf, Setting, Fresh, AllProper, trueIdentifiers, Agreed, Agreement}
+use Rattle.protocol.specs.Steps.{leaderOf, linkRefusal}
+use Rattle.protocol.specs.Numbering.{linkTo}
+use Rattle.protocol.specs.Numbering.Laws.{link-range}
+use Rattle.protocol.specs.Net.{Net, broadcast, Pair, Event, run, started, saysCorrect, hasStopped, waiting, leaderNamed}
+use Rattle.protocol.specs.Agreement.{BaseOf, Setting, Fresh, AllProper, trueIdentifiers, Agreed, Agreement, ReadBack, Orderly, Order}
 use Rattle.protocol.specs.Agreement.Cases.{prime-or-secondary}
 use Rattle.protocol.specs.Agreement.Views.{Said}
-use Rattle.protocol.specs.Agreement.Invariant.{Premises}
-use Rattle.protocol.specs.Agreement.Inner.{Group, fresh, Agrees}
+use Rattle.protocol.specs.Agreement.Invariant.{Premises, broadcastAt}
+use Rattle.protocol.specs.Agreement.Inner.{Group, fresh, Agrees, Member}
 use Rattle.protocol.specs.Agreement.Inner.Theorem.{stands, inner}
+use Rattle.protocol.specs.Agreement.Inner.Life.{log-most}
 use Rattle.protocol.specs.Agreement.Outer.Faulty.{table, table-good, table-symmetric, table-total}
 use Rattle.protocol.specs.Agreement.Outer.Truth.{trueOf, truth-listed, leader-sort}
-use Rattle.protocol.specs.Agreement.Outer.Frames.{length-encoded, says-said, said-says}
-use Rattle.protocol.specs.Agreement.Outer.Follows.{Shows, Follows}
+use Rattle.protocol.specs.Agreement.Outer.Frames.{length-encoded, said-at, reads-back, encoded-accepted, says-said, said-says}
+use Rattle.protocol.specs.Agreement.Outer.Follows.{Shows, Follows, encoded-at}
 use Rattle.protocol.specs.Agreement.Outer.History.{run-follows, started-runs}
 use Rattle.protocol.specs.Agreement.Outer.Waiting.{nothing-waits}
+use Rattle.frame.specs.Encoding.{encode}
+use Rattle.frame.specs.Reading.{burstRefusal, messageOf}
 
 -- "t is at most (n − 2) / 2 rounded down": so n is at least 2t + 2, which is all that the argument asks of n
 enough-bases : (n t : ℕ) (faulty : List Pair) → Setting n t faulty → 2 * t + 2 ≤ n
@@ -37,6 +44,11 @@ enough-bases n t faulty S = omega (arith, S .limit, S .size .least)
 each-base : (n : ℕ) (Q : ℕ → Type 0) → ((x : ℕ) → x < n → Q (suc x)) → (b : ℕ) → BaseOf n b → Q b
 each-base n Q h zero B = absurd (omega (arith, B .least))
 each-base n Q h (suc x) B = h x (B .most)
+
+-- the link between two bases of the net has one of the numbers 1 to n - 1
+link-accepted : (n a b : ℕ) → BaseOf n a → BaseOf n b → a ≢ b → linkRefusal n (linkTo b a) ≡ 0
+unfolding linkRefusal
+link-accepted n a b A B ne = let r = link-range n b a (B .least) (B .most) (A .least) (A .most) ne in passes 5 (or-neither (le-ltb (linkTo b a) 1 (r .0)) (le-ltb (n - 1) (linkTo b a) (r .1))) refl
 
 module _ (n t : ℕ) (faulty : List Pair) (W : Net) (S : Setting n t faulty) (F : Fresh n t W) where
   -- base x + 1
@@ -154,5 +166,42 @@ module _ (n t : ℕ) (faulty : List Pair) (W : Net) (S : Setting n t faulty) (F 
       ends = λ all-started none. each-base n (λ b. hasStopped end b ≡ true) (ends all-started none);
     }
 
+    -- ---- what holds besides
+    members : (x : ℕ) → x < n → Member n t (trueOf W x) (end .base (suc x))
+    members x l = subst (Member n t (trueOf W x)) (sym (shows .base x l)) (stands n t (table faulty) (trueOf W) truth premises (follows .reached) .member x l)
+
+    frame-read : (x y k : ℕ) → x < n → y < n → k < length (end .log (suc x)) → ReadBack (end .base (suc y) .n) (broadcast end (suc x) (suc k))
+    frame-read x y k lx ly h = subst (λ b. ReadBack b (broadcast end (suc x) (suc k))) (sym (members y ly .n-is)) (record {
+      message = broadcastAt (N .log x) k;
+      written = is;
+      accepted = ap (burstRefusal n) is ∙ encoded-accepted n (S .size) (broadcastAt (N .log x) k) sent;
+      reads = ap messageOf is ∙ reads-back n (S .size) (broadcastAt (N .log x) k) sent;
+    })
+      where
+        below : k < length (N .log x)
+        below = omega (arith, ap length (shows .log x lx), length-encoded (N .log x))
+
+        sent : Valid n (broadcastAt (N .log x) k)
+        sent = valid x (broadcastAt (N .log x) k) lx (said-at (N .log x) k below)
+
+        is : broadcast end (suc x) (suc k) ≡ encode (broadcastAt (N .log x) k)
+        is = encoded-at end (suc x) k (N .log x) (shows .log x lx) below
+
+    in-order : Orderly n faulty W es
+    in-order = record {
+      life = each-base n (λ b. length (end .log b) ≤ n + 3) (λ x l. omega (arith, ap length (shows .log x l), length-encoded (N .log x), log-most n t (table faulty) (trueOf W) truth premises (follows .reached) x l));
+      records = each-base n (λ b. recordRefusal (end .base b) ≡ 0) (λ x l. members x l .refusal);
+      links = λ a b A B ne. each-base n (λ c. a ≢ c → linkRefusal (end .base c .n) (linkTo c a) ≡ 0) (λ y l d. ap (λ k. linkRefusal k (linkTo (suc y) a)) (members y l .n-is) ∙ link-accepted n a (suc y) A (here y l) d) b B ne;
+      frames = λ a b k A B one most. each-base n (λ c. (j : ℕ) → 1 ≤ j → j ≤ length (end .log c) → ReadBack (end .base b .n) (broadcast end c j))
+          (λ x l j low high. each-base n (λ c. (j : ℕ) → 1 ≤ j → j ≤ length (end .log (suc x)) → ReadBack (end .base c .n) (broadcast end (suc x) j)) (λ y ly j low high. numbered x y j l ly low high) b B j low high) a A k one most;
+    }
+      where
+        numbered : (x y j : ℕ) → x < n → y < n → 1 ≤ j → j ≤ length (end .log (suc x)) → ReadBack (end .base (suc y) .n) (broadcast end (suc x) j)
+        numbered x y zero lx ly low high = absurd (omega arith)
+        numbered x y (suc k) lx ly low high = frame-read x y k lx ly high
+
 pub agreement : Agreement
 agreement n t faulty W es S F p = agreed n t faulty W S F es p
+
+pub orderly : Order
+orderly n t faulty W es S F p = in-order n t faulty W S F es p

@@ -50,6 +50,14 @@ pub record Move (n t y : ℕ) (own : ℕ) (i : Input) (b : Base) (d : Done) : Ty
   pub member : Member n t own (d .base)
   pub valid : AllValid n (d .says)
 
+-- a message that arrives at a member is heard as the steps ask
+pub member-heard : (n t y : ℕ) → y < n → (own : ℕ) (b : Base) → Member n t own b → (x : ℕ) → x < n → x ≢ y → (m : Message) → Valid n m → Heard b (placeOf y x) m
+member-heard n t y y-in own b M x x-in ne m w = record {
+  refusal = M .refusal;
+  place = subst (λ k. placeOf y x < k - 1) (sym (M .n-is)) (place-inside y x n y-in x-in ne);
+  valid = subst (λ k. Valid k m) (sym (M .n-is)) w;
+}
+
 module _ (n t : ℕ) (y : ℕ) (y-in : y < n) (own : ℕ) (b : Base) (M : Member n t own b) (settled : Settled n t y (view y b)) where
   inside : y < b .n
   inside = subst (λ k. y < k) (sym (M .n-is)) y-in
@@ -69,11 +77,7 @@ module _ (n t : ℕ) (y : ℕ) (y-in : y < n) (own : ℕ) (b : Base) (M : Member
 
   module _ (x : ℕ) (x-in : x < n) (ne : x ≢ y) (m : Message) (w : Valid n m) where
     heard : Heard b (placeOf y x) m
-    heard = record {
-      refusal = M .refusal;
-      place = subst (λ k. placeOf y x < k - 1) (sym (M .n-is)) (place-inside y x n y-in x-in ne);
-      valid = subst (λ k. Valid k m) (sym (M .n-is)) w;
-    }
+    heard = member-heard n t y y-in own b M x x-in ne m w
 
     pub arrival-moves : Move n t y own (arrival x m) b (arrivalStep b (placeOf y x) m)
     arrival-moves = move (arrival x m) (arrivalStep b (placeOf y x) m)

@@ -91,7 +91,7 @@ unfolding eventRefusal
 forgery-on-faulty-link faulty W a b room bytes e = passed (good faulty a b) 17 0 e .0
 
 -- the frame that it names is the encoding of the message of that number
-encoded-at : (W : Net) (a k : ℕ) (log : List Message) → W .log a ≡ map encode log → k < length log → broadcast W a (suc k) ≡ encode (broadcastAt log k)
+pub encoded-at : (W : Net) (a k : ℕ) (log : List Message) → W .log a ≡ map encode log → k < length log → broadcast W a (suc k) ≡ encode (broadcastAt log k)
 unfolding broadcast
 encoded-at W a k log e h = ap₂ (λ (l : List (List ℕ)) (j : ℕ). getD l j []) {x = W .log a} {y = map encode log} e (before k) ∙ frame-at log k h
   where

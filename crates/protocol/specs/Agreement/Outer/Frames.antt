@@ -10,14 +10,14 @@ use borrow.Author.Tests.{eqb-true, eq-eqb}
 use lib.Dec.{eqb}
 use lib.ListN.{length, getD}
 use Rattle.limits.specs.Limits.{mostBases, longestBurst}
-use Rattle.limits.specs.Refusals.{NetSize}
+use Rattle.limits.specs.Refusals.{NetSize, netRefusal}
 use Rattle.lists.specs.Choice.{or}
-use Rattle.lists.specs.Choice.Laws.{or-true}
+use Rattle.lists.specs.Choice.Laws.{or-true, first-passed}
 use Rattle.frame.specs.Message.{Message, announce, verify, correctFinal, verifyFinal, kindOf, idsOf, Valid}
 use Rattle.frame.specs.Message.Laws.{expected-range}
 use Rattle.frame.specs.Encoding.{encode}
 use Rattle.frame.specs.Encoding.Laws.{length-frame}
-use Rattle.frame.specs.Reading.{kindByte, messageOf}
+use Rattle.frame.specs.Reading.{kindByte, messageOf, burstRefusal, readRefusal}
 use Rattle.frame.specs.Reading.Laws.{kind-is}
 use Rattle.frame.specs.Reading.Theorems.{read-after-write}
 use Rattle.protocol.specs.Net.{saysCorrect}
@@ -55,6 +55,12 @@ module _ (n : ℕ) (N : NetSize n) (m : Message) (w : Valid n m) where
 
   pub reads-back : messageOf (encode m) ≡ m
   reads-back = read-after-write n N [] m w encoded-fits .same-message
+
+  pub encoded-accepted : burstRefusal n (encode m) ≡ 0
+  encoded-accepted = go (read-after-write n N [] m w encoded-fits .accepted)
+    where
+      go : readRefusal n (encode m) ≡ 0 → burstRefusal n (encode m) ≡ 0
+      go e = unfold readRefusal in first-passed (netRefusal n) (burstRefusal n (encode m)) e .1
 
   pub kind-written : kindByte (encode m) ≡ kindOf m
   unfolding encode
