@@ -69,7 +69,7 @@ module _ (me : ℕ) (b : Base) (inside : me < b .n) (R : Runs b) (S : Sized b) (
   -- ---- "Announce g: discarded if that link has an Announce, if g is certified, or if the link's list is full."
   announce-call : (g : ℕ) → Valid n (announce g) → CallOf (announce g) (onAnnounce b i g)
   unfolding onAnnounce
-  announce-call g w = choose-ind (CallOf (announce g)) (or (announces link) (or (member g (certified b)) (full n link))) (λ e. discarded-call me b inside R S settled x x-in ne (announce g) (discarded e)) accepted
+  announce-call g w = choose-ind (CallOf (announce g)) _ (λ e. discarded-call me b inside R S settled x x-in ne (announce g) (discarded e)) accepted
     where
       discarded : or (announces link) (or (member g (certified b)) (full n link)) ≡ true → Taken n see see x (announce g)
       discarded e = elim (or-true (announces link) (or (member g (certified b)) (full n link)) e) [
@@ -92,7 +92,7 @@ module _ (me : ℕ) (b : Base) (inside : me < b .n) (R : Runs b) (S : Sized b) (
   -- ---- "Verify g: discarded if that link holds Verify g or is full."
   verify-call : (g : ℕ) → Valid n (verify g) → CallOf (verify g) (onVerify b i g)
   unfolding onVerify
-  verify-call g w = choose-ind (CallOf (verify g)) (or (holdsVerify link g) (full n link)) (λ e. discarded-call me b inside R S settled x x-in ne (verify g) (discarded e)) accepted
+  verify-call g w = choose-ind (CallOf (verify g)) _ (λ e. discarded-call me b inside R S settled x x-in ne (verify g) (discarded e)) accepted
     where
       discarded : or (holdsVerify link g) (full n link) ≡ true → Taken n see see x (verify g)
       discarded e = elim (or-true (holdsVerify link g) (full n link) e) [ inl p ↦ inl (seen-verify me b x ne g ∙ p) | inr p ↦ inr (full-seen me b inside R S settled x x-in ne p) ]
@@ -116,6 +116,10 @@ module _ (me : ℕ) (b : Base) (inside : me < b .n) (R : Runs b) (S : Sized b) (
     correct-stored : link .held ≢ 3 → Stored x (correctFinal v) see (view me holds)
     correct-stored free = changed-stored me b x ne (correctFinal v) (withVector link 3 v) fits (correct-changes n link v (valid-length n (correctFinal v) v refl w) free)
 
+    -- what discards a Correct-Final is another one
+    correct-held : eqb (link .held) 3 ≡ true → Taken n see see x (correctFinal v)
+    correct-held e = inr (take n (link .list), seen-correct me b x ne (take n (link .list)) ∙ held-correct n link (eqb-true (link .held) 3 e))
+
     corrects-now : corrects n (view me holds) v ≡ correctCount holds v
     unfolding withLink
     corrects-now = corrects-seen me holds (record { net = R .standing .net; inside = inside }) v
@@ -124,7 +128,7 @@ module _ (me : ℕ) (b : Base) (inside : me < b .n) (R : Runs b) (S : Sized b) (
     vote-told : votes holds v ≡ true → Telling n (correctFinal v) see (view me holds) (withSent holds .sent) (verifyFinal v ∷ [])
     unfolding votes withSent
     vote-told e =
-        let p = and-true (eqb (holds .sent) 0) (leb 2 (correctCount holds v)) e in
+        let p = and-true _ _ e in
         tells-vote v refl (unfold view withLink in eqb-true (b .sent) 0 (p .0)) (omega (arith, corrects-now, leb-true 2 (correctCount holds v) (p .1)))
 
     nothing-told : votes holds v ≡ false → Telling n (correctFinal v) see (view me holds) (holds .sent) []
@@ -151,14 +155,14 @@ module _ (me : ℕ) (b : Base) (inside : me < b .n) (R : Runs b) (S : Sized b) (
 
     correct-call : CallOf (correctFinal v) (onCorrectFinal b i v)
     unfolding onCorrectFinal vote accepts
-    correct-call = choose-ind (CallOf (correctFinal v)) (eqb (link .held) 3)
-        (λ e. discarded-call me b inside R S settled x x-in ne (correctFinal v) (inr (take n (link .list), seen-correct me b x ne (take n (link .list)) ∙ held-correct n link (eqb-true (link .held) 3 e))))
+    correct-call = choose-ind (CallOf (correctFinal v)) _
+        (λ e. discarded-call me b inside R S settled x x-in ne (correctFinal v) (correct-held e))
         (λ e. choose-ind (λ (d : Done). CallOf (correctFinal v) (secondaryCheck (d .base) v (d .says))) (votes holds v) (voting (eqb-false (link .held) 3 e)) (not-voting (eqb-false (link .held) 3 e)))
 
   -- ---- "Verify-Final V: discarded if the link holds any vector message. Else held"
   vote-call : (v : List ℕ) → Valid n (verifyFinal v) → CallOf (verifyFinal v) (onVerifyFinal b i v)
   unfolding onVerifyFinal
-  vote-call v w = choose-ind (CallOf (verifyFinal v)) (not (eqb (link .held) 0)) (λ e. discarded-call me b inside R S settled x x-in ne (verifyFinal v) (discarded e)) accepted
+  vote-call v w = choose-ind (CallOf (verifyFinal v)) _ (λ e. discarded-call me b inside R S settled x x-in ne (verifyFinal v) (discarded e)) accepted
     where
       discarded : not (eqb (link .held) 0) ≡ true → Taken n see see x (verifyFinal v)
       discarded e = elim (held-list n link (link-sound b (runs-admitted R) i below .held) (eqb-false (link .held) 0 (not-true (eqb (link .held) 0) e)) .0) [

@@ -17,7 +17,7 @@ module _ (n : ℕ) (faulty : List Pair) (W : Net) where
   -- what waits from a to b on a good link is counted whole
   waits-counted : (a b : ℕ) → a ≢ b → good faulty a b ≡ true → waitingFrom faulty W a b ≡ sum (length (W .log a)) (λ i. bit (not (W .carried a b (suc i))))
   unfolding waitingFrom
-  waits-counted a b ne e = choose-no 0 (sum (length (W .log a)) (λ i. bit (not (W .carried a b (suc i))))) (or-neither (ne-eqb a b ne) (ap not e))
+  waits-counted a b ne e = choose-no _ _ (or-neither (ne-eqb a b ne) (ap not e))
 
   pub nothing-waits : waiting n faulty W ≡ 0 → (x y k : ℕ) → x < n → y < n → x ≢ y → good faulty (suc x) (suc y) ≡ true → k < length (W .log (suc x)) → W .carried (suc x) (suc y) (suc k) ≡ true
   unfolding waiting
