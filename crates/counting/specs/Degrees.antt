@@ -1,7 +1,7 @@
 -- Tables over the pairs of 0 .. n - 1, such as "the link of x and y is faulty" (1, or 0): the degree of x is the sum of its row. Degrees add up to twice
 -- the links, so all counts of the agreement argument are sums of degrees.
 use Prim.Native.Nat.{ℕ, zero, suc, _+_, _*_, _≤_, _<_}
-use mathlib.Core.Path.{_≡_, refl, sym, ap, _∙_}
+use mathlib.Core.Path.{_≡_, refl, sym, _∙_}
 use mathlib.Core.Bool.{Bool, true, false, not}
 use mathlib.Core.Logic.{_≢_}
 use native.Mathlib.Nat.{le-trans}
@@ -12,7 +12,7 @@ use lib.Dec.{eqb}
 use Rattle.lists.specs.Choice.{and, or}
 use Rattle.counting.specs.Sums.{bit, sum, pairs}
 use Rattle.counting.specs.Parts.{_⊞_, sum-⊞, only, only-there, sum-only}
-use Rattle.counting.specs.Sums.Laws.{sum-same, sum-mono, sum-add, sum-cong, sum-zeros}
+use Rattle.counting.specs.Sums.Laws.{sum-swap, sum-same, sum-mono, sum-add, sum-cong, sum-zeros}
 use Rattle.counting.specs.Counts.{count, bit-or, count-once, count-rest, count-below, TwoOf, counted-two}
 
 abbrev pub degree : ℕ → (ℕ → ℕ → ℕ) → ℕ → ℕ
@@ -33,6 +33,10 @@ pub total-add : (n : ℕ) (F G : ℕ → ℕ → ℕ) → total n (λ x y. F x y
 unfolding total
 total-add n F G = sum-cong n (λ x. sum n (λ y. F x y + G x y)) (λ x. sum n (F x) + sum n (G x)) (λ x l. sum-add n (F x) (G x)) ∙ sum-add n (degree n F) (degree n G)
 
+pub total-turned : (n : ℕ) (F : ℕ → ℕ → ℕ) → total n (λ x y. F y x) ≡ total n F
+unfolding total
+total-turned n F = sum-swap n n (λ x y. F y x)
+
 pub total-none : (n : ℕ) → total n (λ x y. 0) ≡ 0
 unfolding total
 total-none n = sum-cong n (λ x. sum n (λ y. 0)) (λ x. 0) (λ x l. sum-zeros n) ∙ sum-zeros n
@@ -41,42 +45,37 @@ total-none n = sum-cong n (λ x. sum n (λ y. 0)) (λ x. 0) (λ x l. sum-zeros n
 unfoldable pub edge : ℕ → ℕ → ℕ → ℕ → Bool
 edge a b x y = or (and (eqb a x) (eqb b y)) (and (eqb a y) (eqb b x))
 
-and-swap : (p q : Bool) → and p q ≡ and q p
-unfolding and
-and-swap true true = refl
-and-swap true false = refl
-and-swap false true = refl
-and-swap false false = refl
-
--- a row of "a is x, and b is y": one at most, and none where a is not x
-row : (n : ℕ) (t : Bool) (p : ℕ → Bool) → sum n (λ y. bit (p y)) ≤ 1 → sum n (λ y. bit (and t (p y))) ≤ bit t
-unfolding and bit
-row n true p h = h
-row n false p h = omega (arith, sum-zeros n)
-
 -- one link adds two to the degrees, whatever names the members have
-module _ (n a b : ℕ) (name : ℕ → ℕ) (apart : (x y : ℕ) → name x ≡ name y → x ≡ y) where
+module _ (n : ℕ) (name : ℕ → ℕ) (apart : (x y : ℕ) → name x ≡ name y → x ≡ y) (a b : ℕ) where
+  -- x is a, and y is b
+  spot : ℕ → ℕ → ℕ
+  spot x y = bit (and (eqb a (name x)) (eqb b (name y)))
+
   met-once : (c : ℕ) → sum n (λ x. bit (eqb c (name x))) ≤ 1
   unfolding count
   met-once c = count-once n (λ x. eqb c (name x)) (λ x y lx ly p q. apart x y (sym (eqb-true c (name x) p) ∙ eqb-true c (name y) q))
 
-  edge-row : (x : ℕ) → sum n (λ y. bit (edge a b (name x) (name y))) ≤ bit (eqb a (name x)) + bit (eqb b (name x))
-  unfolding edge
-  edge-row x = le-trans
-      (sum-mono n (λ y. bit (edge a b (name x) (name y))) (λ y. bit (and (eqb a (name x)) (eqb b (name y))) + bit (and (eqb a (name y)) (eqb b (name x)))) (λ y l. bit-or (and (eqb a (name x)) (eqb b (name y))) (and (eqb a (name y)) (eqb b (name x)))))
-      (omega (
-        arith,
-        sum-add n (λ y. bit (and (eqb a (name x)) (eqb b (name y)))) (λ y. bit (and (eqb a (name y)) (eqb b (name x)))),
-        row n (eqb a (name x)) (λ y. eqb b (name y)) (met-once b),
-        row n (eqb b (name x)) (λ y. eqb a (name y)) (met-once a),
-        sum-cong n (λ y. bit (and (eqb a (name y)) (eqb b (name x)))) (λ y. bit (and (eqb b (name x)) (eqb a (name y)))) (λ y l. ap bit (and-swap (eqb a (name y)) (eqb b (name x)))),
-      ))
+  spot-row : (x : ℕ) → degree n spot x ≤ bit (eqb a (name x))
+  unfolding spot
+  spot-row x = go (eqb a (name x))
+    where
+      go : (t : Bool) → sum n (λ y. bit (and t (eqb b (name y)))) ≤ bit t
+      go true = unfold and bit in met-once b
+      go false = unfold and bit in omega (arith, sum-zeros n)
+
+  spot-total : total n spot ≤ 1
+  unfolding total
+  spot-total = le-trans (sum-mono n (degree n spot) (λ x. bit (eqb a (name x))) (λ x l. spot-row x)) (met-once a)
 
   pub edge-total : total n (λ x y. bit (edge a b (name x) (name y))) ≤ 2
-  unfolding total
-  edge-total = le-trans
-      (sum-mono n (λ x. sum n (λ y. bit (edge a b (name x) (name y)))) (λ x. bit (eqb a (name x)) + bit (eqb b (name x))) (λ x l. edge-row x))
-      (omega (arith, sum-add n (λ x. bit (eqb a (name x))) (λ x. bit (eqb b (name x))), met-once a, met-once b))
+  unfolding edge spot
+  edge-total = omega (
+    arith,
+    total-mono n (λ x y. bit (edge a b (name x) (name y))) (λ x y. spot x y + spot y x) (λ x y lx ly. bit-or (and (eqb a (name x)) (eqb b (name y))) (and (eqb a (name y)) (eqb b (name x)))),
+    total-add n spot (λ x y. spot y x),
+    total-turned n spot,
+    spot-total,
+  )
 
 -- ---- untouched members: those of degree 0
 unfoldable pub untouched : ℕ → (ℕ → ℕ → ℕ) → ℕ → Bool
@@ -97,7 +96,7 @@ pub untouched-none : (n : ℕ) (F : ℕ → ℕ → ℕ) (x : ℕ) → untouched
 unfolding untouched
 untouched-none n F x e = eqb-true (degree n F x) 0 e
 
--- "Bases with deg 0 number at least n − 2t ≥ 2."
+-- where the total is at least two below n
 pub two-untouched : (n : ℕ) (F : ℕ → ℕ → ℕ) → total n F + 2 ≤ n → TwoOf n (untouched n F)
 two-untouched n F h = counted-two n (untouched n F) (omega (arith, untouched-many n F))
 

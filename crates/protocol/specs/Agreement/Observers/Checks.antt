@@ -80,37 +80,50 @@ module _ (me : ℕ) (b : Base) (H : Inside me b) where
     announce-skip : (i : ℕ) → i < n - 1 → announces (linkAt b i) ≡ true
     announce-skip i l = all-announce me b H all-named i (omega (arith, link-count b (H .net)))
 
+    lacks-announced : (i j : ℕ) → lacks me see (skip me i) (skip me j) ≡ not (holdsVerify (linkAt b i) (linkAt b j .announce))
+    lacks-announced i j = lacks-skip i (skip me j) ∙ ap (λ g. not (holdsVerify (linkAt b i) g)) (named-skip me b j)
+
     pair-seen : (i j : ℕ) → i < n - 1 → j < i → bit (suspectPair (linkAt b i) (linkAt b j)) ≡ suspect me see (skip me i) (skip me j)
     unfolding suspectPair and
     pair-seen i j l h = rw (announce-skip i l, announce-skip j (omega arith))
-        (sym (suspect-apart me see (skip me i) (skip me j) apart ∙ ap₂ (λ p q. bit (or p q)) (lacks-skip i (skip me j) ∙ ap (λ g. not (holdsVerify (linkAt b i) g)) (named-skip me b j)) (lacks-skip j (skip me i) ∙ ap (λ g. not (holdsVerify (linkAt b j) g)) (named-skip me b i))))
+        (sym (suspect-apart me see (skip me i) (skip me j) apart ∙ ap₂ (λ p q. bit (or p q)) (lacks-announced i j) (lacks-announced j i)))
       where
         apart : skip me i ≢ skip me j
         apart e = let q : i ≡ j = sym (place-skip me i) ∙ ap (placeOf me) e ∙ place-skip me j in omega arith
 
+    -- "For a pair with the own identifier, only the other's link is looked at."
     own-seen : (i : ℕ) → i < n - 1 → bit (suspectOwn (b .own) (linkAt b i)) ≡ suspect me see (skip me i) me
     unfolding suspectOwn and
     own-seen i l = rw (announce-skip i l)
-        (sym (suspect-apart me see (skip me i) me (skip-other me i) ∙ ap₂ (λ p q. bit (or p q)) (lacks-skip i me ∙ ap (λ g. not (holdsVerify (linkAt b i) g)) (named-own me b)) (lacks-own me see me (skip me i) refl) ∙ ap bit (or-none (not (holdsVerify (linkAt b i) (b .own))))))
+        (sym (suspect-apart me see (skip me i) me (skip-other me i) ∙ ap₂ (λ p q. bit (or p q)) lacks-own-name (lacks-own me see me (skip me i) refl) ∙ ap bit (or-none (not (holdsVerify (linkAt b i) (b .own))))))
       where
+        lacks-own-name : lacks me see (skip me i) me ≡ not (holdsVerify (linkAt b i) (b .own))
+        lacks-own-name = lacks-skip i me ∙ ap (λ g. not (holdsVerify (linkAt b i) g)) (named-own me b)
+
         or-none : (t : Bool) → or t false ≡ t
         or-none true = unfold or in refl
         or-none false = unfold or in refl
 
+    -- suspect pairs of two links, and of a link and the base itself
+    abbrev between : ℕ → ℕ
+    between k = pairs k (λ i j. bit (suspectPair (linkAt b i) (linkAt b j)))
+
+    abbrev with-own : ℕ → ℕ
+    with-own k = sum k (λ i. bit (suspectOwn (b .own) (linkAt b i)))
+
     suspects-seen : suspects b ≡ pairs n (suspect me see)
     unfolding suspects links
-    suspects-seen = subst (λ k. pairs (linkCount b) (λ i j. bit (suspectPair (linkAt b i) (linkAt b j))) + sum (linkCount b) (λ i. bit (suspectOwn (b .own) (linkAt b i))) ≡ pairs k (suspect me see)) (size me b H)
-        (omega (
-          arith,
-          ap (λ k. pairs k (λ i j. bit (suspectPair (linkAt b i) (linkAt b j)))) (link-count b (H .net)),
-          ap (λ k. sum k (λ i. bit (suspectOwn (b .own) (linkAt b i)))) (link-count b (H .net)),
-          pairs-skip (n - 1) me (suspect me see) (suspect-symmetric me see) (suspect-self me see) (omega (arith, H .inside)),
-          sum-cong (n - 1) (λ i. bit (suspectOwn (b .own) (linkAt b i))) (λ i. suspect me see (skip me i) me) own-seen,
-          between,
-        ))
+    suspects-seen = subst (λ k. between (linkCount b) + with-own (linkCount b) ≡ pairs k (suspect me see)) (size me b H) (omega (
+      arith,
+      ap between (link-count b (H .net)),
+      ap with-own (link-count b (H .net)),
+      pairs-skip (n - 1) me (suspect me see) (suspect-symmetric me see) (suspect-self me see) (omega (arith, H .inside)),
+      sum-cong (n - 1) (λ i. bit (suspectOwn (b .own) (linkAt b i))) (λ i. suspect me see (skip me i) me) own-seen,
+      same-between,
+    ))
       where
-        between : pairs (n - 1) (λ i j. bit (suspectPair (linkAt b i) (linkAt b j))) ≡ pairs (n - 1) (λ i j. suspect me see (skip me i) (skip me j))
-        between = unfold pairs in sum-cong (n - 1) _ _ (λ i l. sum-cong i _ _ (λ j h. pair-seen i j l h))
+        same-between : between (n - 1) ≡ pairs (n - 1) (λ i j. suspect me see (skip me i) (skip me j))
+        same-between = unfold pairs in sum-cong (n - 1) _ _ (λ i l. sum-cong i _ _ (λ j h. pair-seen i j l h))
 
     -- "the final list is the certified ones sorted"
     pub sorted-lists : distinct (certified b) ≡ true → Lists n (see .named) (sort (certified b))

@@ -8,7 +8,7 @@ use mathlib.Core.List.{List, [], _∷_, _++_, append-nil, List·Memᴰ·not-nil}
 use native.Mathlib.Omega.{arith}
 use borrow.Author.Tests.{eqb-true, leb-true}
 use lib.ListN.{length, length-take}
-use Rattle.limits.specs.Limits.{mostBases}
+use Rattle.limits.specs.Limits.{mostBases, mostLinks}
 use Rattle.lists.specs.Choice.{choose, and, or}
 use Rattle.lists.specs.Choice.Laws.{choose-ind, and-true, clash}
 use Rattle.lists.specs.Lists.{sort}
@@ -19,10 +19,10 @@ use Rattle.frame.specs.Message.{Message, announce, verify, correctFinal, verify
 use Rattle.protocol.specs.declared.Link.{Link}
 use Rattle.protocol.specs.declared.Base.{Base}
 use Rattle.protocol.specs.Links.{announces, verifiesOf, used, full}
-use Rattle.protocol.specs.Links.Laws.{announces-some, count-used}
+use Rattle.protocol.specs.Links.Laws.{announces-some}
 use Rattle.protocol.specs.Record.{linkAt, certified, finalList, links}
 use Rattle.protocol.specs.Record.Memory.{Sized}
-use Rattle.protocol.specs.Sound.Laws.{LinkParts, link-sound}
+use Rattle.protocol.specs.Sound.Laws.{count-room}
 use Rattle.protocol.specs.Sound.Running.{Runs, runs-admitted}
 use Rattle.protocol.specs.Steps.{Done, discards, accepts, withSent, withState, withFinal, primeHolds, secondaryHolds, stops, primeCheck, secondaryCheck, vote}
 use Rattle.protocol.specs.Steps.Laws.{SameSetting}
@@ -109,9 +109,6 @@ module _ (me : ℕ) (b : Base) (inside : me < b .n) (R : Runs b) (S : Sized b) (
   fits : i < length (b .links)
   fits = omega (arith, below, R .standing .net .most, S .links)
 
-  sound-link : LinkParts n link
-  sound-link = link-sound b (runs-admitted R) i below
-
   abbrev CallOf : Message → Done → Type 0
   CallOf m d = Call n t me (b .own) (arrival x m) see (view me (d .base)) (d .says)
 
@@ -131,8 +128,14 @@ module _ (me : ℕ) (b : Base) (inside : me < b .n) (R : Runs b) (S : Sized b) (
   unfolding full used view
   full-seen e = omega (arith, leb-true (n + 1) (link .«verify_count» + bit (announces link)) e, length-verifies, named-other me b x ne, one)
     where
+      here : i < mostLinks
+      here = omega (arith, below, R .standing .net .most)
+
+      counted : length (verifiesOf link) ≡ link .«verify_count»
+      counted = unfold verifiesOf in omega (arith, length-take (link .«verify_count») (link .verifies), count-room b (runs-admitted R) i here, S .each i here .verifies)
+
       length-verifies : length (verifiesOf (linkFor me b x)) ≡ link .«verify_count»
-      length-verifies = ap (λ (l : Link). length (verifiesOf l)) (link-other me b x ne) ∙ (unfold verifiesOf in omega (arith, length-take (link .«verify_count») (link .verifies), count-used link, sound-link .room, S .each i (omega (arith, below, R .standing .net .most)) .verifies, R .standing .net .most))
+      length-verifies = ap (λ (l : Link). length (verifiesOf l)) (link-other me b x ne) ∙ counted
 
       one : bit (announces link) ≤ min 1 (link .announce)
       one = go (announces link) refl

@@ -61,11 +61,14 @@ unfolding table good
 table-total n [] = omega (arith, total-mono n (λ x y. bit false) (λ x y. 0) (λ x y lx ly. unfold bit in le-refl 0), total-none n)
 table-total n (p ∷ faulty) = omega (
   arith,
-  total-mono n (λ x y. bit (not (and (not (joins p (suc x) (suc y))) (good faulty (suc x) (suc y))))) (λ x y. bit (joins p (suc x) (suc y)) + bit (not (good faulty (suc x) (suc y)))) (λ x y lx ly. one-more (joins p (suc x) (suc y)) (good faulty (suc x) (suc y))),
-  total-add n (λ x y. bit (joins p (suc x) (suc y))) (λ x y. bit (not (good faulty (suc x) (suc y)))),
-  named,
+  total-mono n (table (p ∷ faulty)) (λ x y. named x y + table faulty x y) (λ x y lx ly. one-more (joins p (suc x) (suc y)) (good faulty (suc x) (suc y))),
+  total-add n named (table faulty),
+  twice,
   table-total n faulty,
 )
   where
-    named : total n (λ x y. bit (joins p (suc x) (suc y))) ≤ 2
-    named = unfold joins edge in edge-total n (p .one) (p .other) suc (λ x y e. cc)
+    named : ℕ → ℕ → ℕ
+    named x y = bit (joins p (suc x) (suc y))
+
+    twice : total n named ≤ 2
+    twice = unfold joins edge in edge-total n suc (λ x y e. cc) (p .one) (p .other)

@@ -9,7 +9,7 @@ use mathlib.Core.List.{List, [], _++_, map}
 use native.Mathlib.Decide.{ℕ-discrete}
 use native.Mathlib.Omega.{arith}
 use borrow.Author.Tests.{eqb-true, eqb-false, ltb-false}
-use lib.Dec.{eqb, ltb}
+use lib.Dec.{eqb}
 use lib.ListN.{length, getD}
 use Rattle.limits.specs.Refusals.{NetSize}
 use Rattle.lists.specs.Choice.{and, or}
@@ -48,28 +48,26 @@ pub record Follows (n t : ℕ) (faulty : List Pair) (id : ℕ → ℕ) (W : Net)
 carriedBy : Net → Event → ℕ → ℕ → ℕ → Bool
 carriedBy W e x y k = carriedAfter W e (suc x) (suc y) (suc k)
 
+-- two tables that show the same still do where both are replaced at one base
+replaced-across : {A B : Type 0} (h : B → A) (n : ℕ) (f : ℕ → A) (g : ℕ → B) (y : ℕ) (a : A) (b : B) → ((x : ℕ) → x < n → f (suc x) ≡ h (g x)) → a ≡ h b
+    → (x : ℕ) → x < n → replaced (suc y) a f (suc x) ≡ h (replaced y b g x)
+replaced-across h n f g y a b same e x l = elim (ℕ-discrete x y) [
+  | yes q ↦ rw q (replaced-here (suc y) a f ∙ e ∙ ap h (sym (replaced-here y b g)))
+  | no q ↦ replaced-other (suc y) a f (suc x) (λ r. q (cc)) ∙ same x l ∙ ap h (sym (replaced-other y b g x q))
+]
+
 settled-shows : (n : ℕ) (W : Net) (N : Group) (e : Event) (y : ℕ) (d : Done) → y < n → Shows n W N → at e ≡ suc y → call W e ≡ d → Shows n (settled W e) (called N y d (carriedBy W e))
 unfolding settled called carriedBy
 settled-shows n W N e y d y-in S here done = record {
-  base = λ x l. one x (ℕ-discrete x y) l;
-  log = λ x l. frames x (ℕ-discrete x y) l;
+  base = λ x l. subst (λ z. replaced z (call W e .base) (W .base) (suc x) ≡ replaced y (d .base) (N .base) x) (sym here)
+      (replaced-across (λ (b : Base). b) n (W .base) (N .base) y (call W e .base) (d .base) (S .base) (ap (λ (f : Done). f .base) done) x l);
+  log = λ x l. subst (λ z. replaced z (W .log (at e) ++ map encode (call W e .says)) (W .log) (suc x) ≡ map encode (replaced y (N .log y ++ d .says) (N .log) x)) (sym here)
+      (replaced-across (map encode) n (W .log) (N .log) y (W .log (at e) ++ map encode (call W e .says)) (N .log y ++ d .says) (S .log) joined x l);
   carried = λ x z k. refl;
 }
   where
-    away : (x : ℕ) → x ≢ y → suc x ≢ at e
-    away x ne q = ne (let r : suc x ≡ suc y = q ∙ here in cc)
-
-    one : (x : ℕ) → Dec (x ≡ y) → x < n → replaced (at e) (call W e .base) (W .base) (suc x) ≡ replaced y (d .base) (N .base) x
-    one x (yes q) l = ap₂ (λ z u. replaced z (call W e .base) (W .base) u) here (ap suc q) ∙ replaced-here (suc y) (call W e .base) (W .base) ∙ ap (λ (f : Done). f .base) done ∙ sym (ap (replaced y (d .base) (N .base)) q ∙ replaced-here y (d .base) (N .base))
-    one x (no q) l = replaced-other (at e) (call W e .base) (W .base) (suc x) (away x q) ∙ S .base x l ∙ sym (replaced-other y (d .base) (N .base) x q)
-
     joined : W .log (at e) ++ map encode (call W e .says) ≡ map encode (N .log y ++ d .says)
     joined = ap₂ (λ a b. a ++ b) (ap (W .log) here ∙ S .log y y-in) (ap (λ (f : Done). map encode (f .says)) done) ∙ sym (map-append (N .log y) (d .says))
-
-    frames : (x : ℕ) → Dec (x ≡ y) → x < n → replaced (at e) (W .log (at e) ++ map encode (call W e .says)) (W .log) (suc x) ≡ map encode (replaced y (N .log y ++ d .says) (N .log) x)
-    frames x (yes q) l = ap₂ (λ z u. replaced z (W .log (at e) ++ map encode (call W e .says)) (W .log) u) here (ap suc q) ∙ replaced-here (suc y) (W .log (at e) ++ map encode (call W e .says)) (W .log) ∙ joined
-        ∙ sym (ap (λ z. map encode (replaced y (N .log y ++ d .says) (N .log) z)) q ∙ ap (map encode) (replaced-here y (N .log y ++ d .says) (N .log)))
-    frames x (no q) l = replaced-other (at e) (W .log (at e) ++ map encode (call W e .says)) (W .log) (suc x) (away x q) ∙ S .log x l ∙ sym (ap (map encode) (replaced-other y (N .log y ++ d .says) (N .log) x q))
 
 state-left : (W : Net) (e : Event) (d : Done) → call W e ≡ d → 1 ≤ d .base .state → 1 ≤ settled W e .base (at e) .state
 unfolding settled
