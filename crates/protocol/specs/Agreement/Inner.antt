@@ -49,15 +49,18 @@ pub record Fresh (n t : ℕ) (id : ℕ → ℕ) (N : Group) : Type 0 where
   pub silent : (x : ℕ) → x < n → N .log x ≡ []
   pub nothing : (x y k : ℕ) → N .handed x y k ≡ false
 
+-- broadcasts that count as handed over after m has arrived at y from x: those that did before, and those of x's log that are m
+abbrev pub HandedOver : Group → ℕ → ℕ → Message → (ℕ → ℕ → ℕ → Bool) → Type 0
+HandedOver N x y m handed = (a c k : ℕ) → handed a c k ≡ true → (N .handed a c k ≡ true) ⊎ ((a ≡ x) × (c ≡ y) × (k < length (N .log x)) × (broadcastAt (N .log x) k ≡ m))
+
 -- the groups that can be reached from it
 pub data Reached (n t : ℕ) (faulty : ℕ → ℕ → ℕ) (id : ℕ → ℕ) : Group → Type 0 where
   fresh : {N : Group} → Fresh n t id N → Reached n t faulty id N
   -- a start at y
   starts : {N : Group} → Reached n t faulty id N → (y : ℕ) → y < n → Reached n t faulty id (called N y (startStep (N .base y)) (N .handed))
-  -- a valid message arrives at y on its link to x: on a good link it is in x's log; and it may count as one of x's broadcasts handed over to y
+  -- a valid message arrives at y on its link to x: on a good link it is in x's log
   arrives : {N : Group} → Reached n t faulty id N → (x y : ℕ) (m : Message) (handed : ℕ → ℕ → ℕ → Bool) → x < n → y < n → x ≢ y → Valid n m
-      → (faulty x y ≡ 0 → Said m (N .log x))
-      → ((a c k : ℕ) → handed a c k ≡ true → (N .handed a c k ≡ true) ⊎ ((a ≡ x) × (c ≡ y) × (k < length (N .log x)) × (broadcastAt (N .log x) k ≡ m)))
+      → (faulty x y ≡ 0 → Said m (N .log x)) → HandedOver N x y m handed
       → Reached n t faulty id (called N y (arrivalStep (N .base y) (placeOf y x) m) handed)
 
 -- what the theorem says of a group that was reached

@@ -4,5 +4,7 @@ pub mod Faulty
 pub mod Truth
 pub mod Frames
 pub mod Follows
+pub mod Refusals
+pub mod Events
 pub mod History
 pub mod Waiting

@@ -30,7 +30,8 @@ use Rattle.protocol.specs.Agreement.Inner.Life.{log-most}
 use Rattle.protocol.specs.Agreement.Outer.Faulty.{table, table-good, table-symmetric, table-total}
 use Rattle.protocol.specs.Agreement.Outer.Truth.{trueOf, truth-listed, leader-sort}
 use Rattle.protocol.specs.Agreement.Outer.Frames.{length-encoded, said-at, reads-back, encoded-accepted, says-said, said-says}
-use Rattle.protocol.specs.Agreement.Outer.Follows.{Shows, Follows, encoded-at}
+use Rattle.protocol.specs.Agreement.Outer.Follows.{Shows, Follows}
+use Rattle.protocol.specs.Agreement.Outer.Refusals.{encoded-at}
 use Rattle.protocol.specs.Agreement.Outer.History.{run-follows, started-runs}
 use Rattle.protocol.specs.Agreement.Outer.Waiting.{nothing-waits}
 use Rattle.frame.specs.Encoding.{encode}

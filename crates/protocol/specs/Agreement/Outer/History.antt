@@ -16,7 +16,8 @@ use Rattle.protocol.specs.Agreement.Cases.{impossible}
 use Rattle.protocol.specs.Agreement.Invariant.{Premises}
 use Rattle.protocol.specs.Agreement.Inner.Moves.{replaced-other}
 use Rattle.protocol.specs.Agreement.Outer.Faulty.{table}
-use Rattle.protocol.specs.Agreement.Outer.Follows.{Follows, event-moved}
+use Rattle.protocol.specs.Agreement.Outer.Follows.{Follows}
+use Rattle.protocol.specs.Agreement.Outer.Events.{event-moved}
 
 module _ (n t : ℕ) (faulty : List Pair) (id : ℕ → ℕ) (truth : List ℕ) (NS : NetSize n) (P : Premises n t (table faulty) id truth) where
   -- "An event that is turned down ... changes nothing"
