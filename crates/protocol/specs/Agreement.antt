@@ -36,6 +36,7 @@ pub mod Observers
 pub mod Inner
 pub mod Outer
 pub mod Theorem
+pub mod Besides
 
 -- ---- what is given
 -- b is one of the bases 1 to n

@@ -8,3 +8,4 @@ pub mod Refusals
 pub mod Events
 pub mod History
 pub mod Waiting
+pub mod Beginning
