@@ -37,6 +37,7 @@ pub mod Inner
 pub mod Outer
 pub mod Theorem
 pub mod Besides
+pub mod Premise
 
 -- ---- what is given
 -- b is one of the bases 1 to n
