@@ -12,7 +12,7 @@ use Rattle.frame.specs.Message.{Message, announce, verify, correctFinal, verify
 use Rattle.protocol.specs.Agreement.Views.{View, Certified, corrects}
 use Rattle.protocol.specs.Agreement.Calls.{Grows, Backed}
 
--- a message of base x has been delivered: "perhaps from another link" for an Announce; a Verify-Final may have been replaced since
+-- a message of base x has been delivered to b while b runs: an identifier may have been announced on another link, and a Verify-Final may have been replaced since
 abbrev pub Delivered : ℕ → View → ℕ → Message → Type 0
 Delivered n b x (announce g) = 1 ≤ g → Certified n b g
 Delivered n b x (verify g) = member g (b .verifies x) ≡ true

@@ -23,7 +23,7 @@ use Rattle.protocol.specs.Agreement.Invariant.{Premises, State, Invarian
 use Rattle.protocol.specs.Agreement.NetSteps.{NetStep, each-base, base-grows}
 use Rattle.protocol.specs.Agreement.Kept.Logs.{sound-kept, heard-before}
 
--- two lists of the same identifiers in the same order are one
+-- two ascending lists of the same identifiers are one
 pub lists-unique : (n : ℕ) (c id : ℕ → ℕ) (v u : List ℕ) → ((x : ℕ) → x < n → Met n id (c x)) → ((x : ℕ) → x < n → Met n c (id x)) → Lists n c v → Lists n id u → v ≡ u
 lists-unique n c id v u there back p q = ascending-unique v u (p .ascends) (q .ascends) (λ g. same g (member g v) (member g u) refl refl)
   where

@@ -7,9 +7,10 @@ use mathlib.Core.Bool.{true, false}
 use mathlib.Core.List.{List, [], _∷_}
 use native.Mathlib.Decide.{ℕ-discrete}
 use native.Mathlib.Omega.{arith}
-use borrow.Author.Tests.{eqb-true, eqb-false, leb-true, ne-eqb}
+use borrow.Author.Tests.{eqb-true, eqb-false, leb-true, leb-false, ne-eqb}
 use lib.ListN.{take}
 use Rattle.lists.specs.Choice.{and}
+use Rattle.lists.specs.Choice.Laws.{choose-ind, clash}
 use Rattle.lists.specs.Lists.{member, distinct, sameList}
 use Rattle.frame.specs.Message.{Message, announce, verify, correctFinal, verifyFinal, Valid}
 use Rattle.protocol.specs.declared.Link.{Link}
@@ -20,10 +21,9 @@ use Rattle.protocol.specs.Record.Memory.{Sized}
 use Rattle.protocol.specs.Sound.{idle, stopped, recordRefusal}
 use Rattle.protocol.specs.Sound.Laws.{Admitted, record-passed, SoundParts, sound-parts, EmptyParts, idle-unsent, idle-place, link-sound}
 use Rattle.protocol.specs.Sound.Running.{begun-runs, admitted-runs}
-use Rattle.protocol.specs.Steps.{Done, discards, accepts, withState, onMessage, begins, startStep, arrivalStep}
-use Rattle.protocol.specs.Steps.Cases.{begun, afterStart, start-step-cases, arrival-step-cases}
+use Rattle.protocol.specs.Steps.{Done, andThen, discards, accepts, withState, onMessage, begins, startStep, arrivalStep}
+use Rattle.protocol.specs.Steps.Cases.{begun, afterStart, start-step-cases}
 use Rattle.protocol.specs.Steps.Memory.{begun-sized}
-use Rattle.lists.specs.Choice.Laws.{clash}
 use Rattle.protocol.specs.Agreement.Cases.{impossible}
 use Rattle.protocol.specs.Agreement.Views.{Holds}
 use Rattle.protocol.specs.Agreement.Calls.{start, arrival, SoundView, Settled, Call}
@@ -142,5 +142,14 @@ module _ (me : ℕ) (b : Base) (inside : me < b .n) (e : recordRefusal b ≡ 0) 
         second : Call (b .n) (b .t) me (b .own) (arrival x m) (view me (begun b)) (view me (onMessage (begun b) (placeOf me x) m .base)) (onMessage (begun b) (placeOf me x) m .says)
         second = unfold withState in message-call me (begun b) inside (begun-runs b e off) (begun-sized b S) (begin-call off .settled) x x-in ne m w
 
+    -- a running base takes the message up
+    running-call : stopped b ≡ false → idle b ≡ false → CallOf (onMessage b (placeOf me x) m)
+    running-call p q = message-call me b inside (admitted-runs b e runs) S settled x x-in ne m w
+      where
+        runs : b .state ≡ 1
+        runs = omega (arith, leb-false 2 (b .state) (unfold stopped in p), eqb-false (b .state) 0 (unfold idle in q))
+
+    -- "An idle base starts first. A stopped base discards. Then by kind"
     pub arrival-seen : CallOf (arrivalStep b (placeOf me x) m)
-    arrival-seen = arrival-step-cases CallOf b (placeOf me x) m stopped-call idle-call (λ runs. message-call me b inside (admitted-runs b e runs) S settled x x-in ne m w)
+    unfolding arrivalStep andThen begins accepts afterStart
+    arrival-seen = choose-ind CallOf (stopped b) stopped-call (λ p. choose-ind CallOf (idle b) idle-call (running-call p))

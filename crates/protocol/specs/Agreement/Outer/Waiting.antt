@@ -8,7 +8,7 @@ use mathlib.Core.List.{List}
 use native.Mathlib.Omega.{arith}
 use borrow.Author.Tests.{ne-eqb}
 use lib.ListN.{length}
-use Rattle.lists.specs.Choice.Laws.{choose-no, or-neither}
+use Rattle.lists.specs.Choice.Laws.{choose-ind, or-neither, clash}
 use Rattle.counting.specs.Sums.{bit, sum}
 use Rattle.counting.specs.Sums.Laws.{sum-term}
 use Rattle.protocol.specs.Net.{Net, Pair, good, waitingFrom, waiting}
@@ -17,7 +17,7 @@ module _ (n : ℕ) (faulty : List Pair) (W : Net) where
   -- what waits from a to b on a good link is counted whole
   waits-counted : (a b : ℕ) → a ≢ b → good faulty a b ≡ true → waitingFrom faulty W a b ≡ sum (length (W .log a)) (λ i. bit (not (W .carried a b (suc i))))
   unfolding waitingFrom
-  waits-counted a b ne e = choose-no _ _ (or-neither (ne-eqb a b ne) (ap not e))
+  waits-counted a b ne e = choose-ind (λ k. k ≡ sum (length (W .log a)) (λ i. bit (not (W .carried a b (suc i))))) _ (λ q. clash q (or-neither (ne-eqb a b ne) (ap not e))) (λ q. refl)
 
   pub nothing-waits : waiting n faulty W ≡ 0 → (x y k : ℕ) → x < n → y < n → x ≢ y → good faulty (suc x) (suc y) ≡ true → k < length (W .log (suc x)) → W .carried (suc x) (suc y) (suc k) ≡ true
   unfolding waiting
