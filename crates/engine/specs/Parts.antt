@@ -7,7 +7,7 @@ use Rattle.limits.specs.Limits.{mostBases}
 use Rattle.limits.specs.Refusals.{NetSize}
 use Rattle.lists.specs.Lists.{padTo}
 use Rattle.protocol.specs.declared.Base.{Base}
-use Rattle.protocol.specs.Steps.{Done, encodeAll}
+use Rattle.protocol.specs.Steps.{Done, encodeAll, vote, secondaryCheck}
 use Rattle.engine.specs.declared.stop.Checked.{Checked}
 pub mod Laws
 
@@ -23,3 +23,7 @@ pub record Place (b : Base) (i : ℕ) : Type 0 where
 -- the base after a check, and the bytes that it broadcast
 unfoldable pub checkedOf : Done → Checked
 checkedOf d = record { base = d .base; length = length (encodeAll (d .says)) }
+
+-- the vote and the secondary check, once a Correct-Final is held
+unfoldable pub voteAndCheck : Base → List ℕ → Done
+voteAndCheck b v = let d = vote b v in secondaryCheck (d .base) v (d .says)

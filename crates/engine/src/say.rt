@@ -38,6 +38,19 @@ pub(crate) fn refused(base: Base, number: u8) -> Step
     }
 }
 
+pub(crate) fn accepted(base: Base, first: usize, second: usize) -> Step
+    ensures { λ r. ⌜ r ≡ record { outcome = Outcome.Accepted first second 0; base = base } ⌝ }
+{
+    Step {
+        outcome: Outcome::Accepted {
+            first,
+            second,
+            third: 0,
+        },
+        base,
+    }
+}
+
 pub(crate) fn discarded(base: Base) -> Step
     ensures { λ r. ⌜ r ≡ stepOf (discards base) ⌝ }
 {

@@ -21,6 +21,7 @@ use Rattle.protocol.specs.Links.{announces, holdsVerify, full}
 use Rattle.protocol.specs.Record.{linkAt, certified, tallySum, suspects, listTally, correctCount, finalList}
 use Rattle.protocol.specs.Sound.{idle, stopped, recordRefusal}
 pub mod Cases
+pub mod Refusals
 pub mod Laws
 pub mod Checks
 pub mod Certified

@@ -1,21 +1,28 @@
 -- What the checks leave and broadcast, as the code writes it: frames one behind another.
-use Prim.Native.Nat.{ℕ}
+use Prim.Native.Nat.{_<_, _-_, _≤_, ℕ, _+_}
 use mathlib.Core.Path.{_≡_, refl, sym, ap, _∙_}
-use mathlib.Core.Bool.{true, false}
-use mathlib.Core.List.{List, [], _∷_, append-nil}
-use lib.ListN.{length}
-use Rattle.limits.specs.Limits.{mostBases}
-use Rattle.lists.specs.Choice.Laws.{choose-yes, choose-no}
-use Rattle.lists.specs.Lists.{sort, padTo}
+use mathlib.Core.Bool.{Bool, true, false, not}
+use mathlib.Core.List.{_++_, List, [], _∷_, append-nil}
+use native.Mathlib.Omega.{arith}
+use borrow.Author.Tests.{eq-eqb, ne-eqb, leb-false}
+use lib.ListN.{length, take, drop, getD, length-append, length-take, length-drop}
+use Rattle.limits.specs.Limits.{mostBases, frameBytes, listRoom}
+use Rattle.lists.specs.Choice.{choose, or}
+use Rattle.lists.specs.Choice.Laws.{choose-yes, choose-no, or-neither}
+use Rattle.lists.specs.Lists.{sort, padTo, member}
 use Rattle.lists.specs.Lists.Laws.{pad-front}
-use Rattle.frame.specs.Message.{Message, kindOf, idsOf, correctFinal}
-use Rattle.frame.specs.Encoding.{frameOf, encode}
-use Rattle.frame.specs.Encoding.Laws.{over-nothing}
+use Rattle.frame.specs.Message.{Message, kindOf, idsOf, correctFinal, verify, verifyFinal}
+use Rattle.frame.specs.Encoding.{frameOf, encode, over}
+use Rattle.frame.specs.Encoding.Laws.{over-nothing, length-frame}
 use Rattle.protocol.specs.declared.Base.{Base}
-use Rattle.protocol.specs.Record.{certified}
-use Rattle.protocol.specs.Steps.{accepts, primeHolds, secondaryHolds, stops, primeCheck, secondaryCheck, withState, withFinal, encodeAll, outputOf}
+use Rattle.protocol.specs.declared.Step.{Step}
+use Rattle.protocol.specs.declared.Outcome.the-variants.{Accepted}
+use Rattle.protocol.specs.Record.{certified, linkAt}
+use Rattle.protocol.specs.Steps.{Done, refuses, discards, accepts, primeHolds, secondaryHolds, stops, primeCheck, secondaryCheck, withLink, withSent, withState, withFinal, withAnnounce, withVerify, withVector, onAnnounce, onVerify, votes, vote, onCorrectFinal, onVerifyFinal, encodeAll, lengths, outcomeOf, stepOf, outputOf}
+use Rattle.protocol.specs.Links.{announces, holdsVerify, used, full}
+use Rattle.protocol.specs.declared.Link.{Link}
 use Rattle.engine.specs.declared.stop.Checked.{Checked}
-use Rattle.engine.specs.Parts.{Holds, checkedOf}
+use Rattle.engine.specs.Parts.{Holds, checkedOf, voteAndCheck}
 
 -- ---- the checks, by their outcome
 pub prime-yes : (b : Base) (before : List Message) → primeHolds b ≡ true → primeCheck b before ≡ stops b 2 (sort (certified b)) before
@@ -63,3 +70,154 @@ silent-output b output = sym (over-nothing output)
 -- a list of n identifiers in its array
 pub holds-front : (n : ℕ) (v : List ℕ) → length v ≡ n → Holds n (padTo mostBases v)
 holds-front n v e = ap (padTo mostBases) (sym (pad-front mostBases v n e))
+
+-- ---- a check after a message that was broadcast
+-- a check stops the base or not; what was broadcast before stands before what it broadcasts
+check-said : (t : Bool) (b : Base) (state : ℕ) (v : List ℕ) (m : Message) → let d = choose t (stops b state v []) (accepts b []) in choose t (stops b state v (m ∷ [])) (accepts b (m ∷ [])) ≡ accepts (d .base) (m ∷ d .says)
+unfolding choose stops accepts
+check-said true b state v m = refl
+check-said false b state v m = refl
+
+check-lone : (t : Bool) (b : Base) (state : ℕ) (v : List ℕ) → let d = choose t (stops b state v []) (accepts b []) in (d ≡ accepts (d .base) (d .says)) × (length (d .says) ≤ 1)
+unfolding choose stops accepts
+check-lone true b state v = (refl, omega arith)
+check-lone false b state v = (refl, omega arith)
+
+pub prime-said : (b : Base) (m : Message) → primeCheck b (m ∷ []) ≡ accepts (primeCheck b [] .base) (m ∷ primeCheck b [] .says)
+unfolding primeCheck
+prime-said b m = check-said (primeHolds b) b 2 (sort (certified b)) m
+
+pub prime-lone : (b : Base) → (primeCheck b [] ≡ accepts (primeCheck b [] .base) (primeCheck b [] .says)) × (length (primeCheck b [] .says) ≤ 1)
+unfolding primeCheck
+prime-lone b = check-lone (primeHolds b) b 2 (sort (certified b))
+
+pub secondary-said : (b : Base) (v : List ℕ) (m : Message) → secondaryCheck b v (m ∷ []) ≡ accepts (secondaryCheck b v [] .base) (m ∷ secondaryCheck b v [] .says)
+unfolding secondaryCheck
+secondary-said b v m = check-said (secondaryHolds b v) b 3 v m
+
+pub secondary-lone : (b : Base) (v : List ℕ) → (secondaryCheck b v [] ≡ accepts (secondaryCheck b v [] .base) (secondaryCheck b v [] .says)) × (length (secondaryCheck b v [] .says) ≤ 1)
+unfolding secondaryCheck
+secondary-lone b v = check-lone (secondaryHolds b v) b 3 v
+
+-- ---- the answer of an accepted arrival
+lone-lengths : (says : List Message) → length says ≤ 1 → (getD (lengths says) 0 0 ≡ length (encodeAll says)) × (getD (lengths says) 1 0 ≡ 0) × (getD (lengths says) 2 0 ≡ 0)
+unfolding lengths encodeAll
+lone-lengths [] h = (refl, refl, refl)
+lone-lengths (m ∷ []) h = (ap length (sym (append-nil (encode m))), refl, refl)
+lone-lengths (m ∷ (k ∷ says)) h = absurd (omega arith)
+
+-- after a check alone: one frame at most
+pub one-step : (d k : Done) (ck : Checked) (r : Step) → d ≡ accepts (k .base) (k .says) → length (k .says) ≤ 1 → ck ≡ checkedOf k → r ≡ record { outcome = Accepted (ck .length) 0 0; base = ck .base } → r ≡ stepOf d
+unfolding stepOf accepts outcomeOf checkedOf
+one-step d k ck r e h p q =
+    let l = lone-lengths (k .says) h in
+    let long : ck .length ≡ getD (lengths (k .says)) 0 0 = ap (λ (x : Checked). x .length) p ∙ sym (l .0) in
+    let left : r ≡ stepOf (accepts (k .base) (k .says)) = q ∙ (λ i. record { outcome = Accepted (long i) (sym (l .1) i) (sym (l .2) i); base = p i .base }) in
+    left ∙ ap stepOf (sym e)
+
+-- after a message that was broadcast, and a check: one frame, and one more at most
+pub two-step : (d k : Done) (m : Message) (ck : Checked) (first : ℕ) (r : Step) → d ≡ accepts (k .base) (m ∷ k .says) → length (k .says) ≤ 1 → ck ≡ checkedOf k
+    → first ≡ length (frameOf (kindOf m) (idsOf m)) → r ≡ record { outcome = Accepted first (ck .length) 0; base = ck .base } → r ≡ stepOf d
+unfolding stepOf accepts outcomeOf lengths checkedOf encode
+two-step d k m ck first r e h p f q =
+    let l = lone-lengths (k .says) h in
+    let long : ck .length ≡ getD (lengths (k .says)) 0 0 = ap (λ (x : Checked). x .length) p ∙ sym (l .0) in
+    let left : r ≡ stepOf (accepts (k .base) (m ∷ k .says)) = q ∙ (λ i. record { outcome = Accepted (f i) (long i) (sym (l .1) i); base = p i .base }) in
+    left ∙ ap stepOf (sym e)
+
+-- ---- the output of frames one behind another
+two-bytes : (b : Base) (m : Message) (says : List Message) → encodeAll (accepts b (m ∷ says) .says) ≡ frameOf (kindOf m) (idsOf m) ++ encodeAll says
+unfolding accepts encodeAll encode
+two-bytes b m says = refl
+
+pub two-room : (d : Done) (b : Base) (m : Message) (says : List Message) → d ≡ accepts b (m ∷ says) → length (encodeAll (d .says)) ≡ frameBytes (length (idsOf m)) + length (encodeAll says)
+two-room d b m says e =
+    ap (λ (x : Done). length (encodeAll (x .says))) e ∙ ap length (two-bytes b m says) ∙ length-append (frameOf (kindOf m) (idsOf m)) (encodeAll says)
+    ∙ ap (λ (k : ℕ). k + length (encodeAll says)) (length-frame (kindOf m) (idsOf m))
+
+pub two-output : (d : Done) (b : Base) (m : Message) (says : List Message) (output after : List ℕ) → d ≡ accepts b (m ∷ says) → after ≡ over (frameOf (kindOf m) (idsOf m) ++ encodeAll says) output → after ≡ outputOf d output
+unfolding outputOf
+two-output d b m says output after e p = p ∙ ap (λ (f : List ℕ). over f output) (sym (two-bytes b m says)) ∙ ap (λ (x : Done). over (encodeAll (x .says)) output) (sym e)
+
+-- the rest of an output, past its first bytes
+pub rest-length : (output : List ℕ) (first : ℕ) → length (take (length output - first) (drop first output)) ≡ length output - first
+rest-length output first = omega (arith, length-take (length output - first) (drop first output), length-drop first output)
+
+-- ---- a call that broadcasts nothing and changes nothing
+pub refuses-output : (b : Base) (r : ℕ) (output : List ℕ) → output ≡ outputOf (refuses b r) output
+unfolding outputOf refuses encodeAll
+refuses-output b r output = sym (over-nothing output)
+
+discards-output : (b : Base) (output : List ℕ) → output ≡ outputOf (discards b) output
+unfolding outputOf discards encodeAll
+discards-output b output = sym (over-nothing output)
+
+pub dropped : (d : Done) (b : Base) (r : Step) (output : List ℕ) → d ≡ discards b → r ≡ stepOf (discards b) → (r ≡ stepOf d) × (output ≡ outputOf d output)
+dropped d b r output e p = (p ∙ ap stepOf (sym e), discards-output b output ∙ ap (λ (x : Done). outputOf x output) (sym e))
+
+-- ---- each kind of message, by whether it is taken in
+module _ (b : Base) (i : ℕ) where
+  pub announce-dropped : (g : ℕ) → or (announces (linkAt b i)) (or (member g (certified b)) (full (b .n) (linkAt b i))) ≡ true → onAnnounce b i g ≡ discards b
+  unfolding onAnnounce
+  announce-dropped g e = choose-yes _ _ e
+
+  pub announce-taken : (g : ℕ) → announces (linkAt b i) ≡ false → member g (certified b) ≡ false → full (b .n) (linkAt b i) ≡ false
+      → let k = primeCheck (withLink b i (withAnnounce (linkAt b i) g)) [] in onAnnounce b i g ≡ accepts (k .base) (verify g ∷ k .says)
+  unfolding onAnnounce
+  announce-taken g p q r = choose-no _ _ (or-neither p (or-neither q r)) ∙ prime-said _ (verify g)
+
+  pub verify-dropped : (g : ℕ) → or (holdsVerify (linkAt b i) g) (full (b .n) (linkAt b i)) ≡ true → onVerify b i g ≡ discards b
+  unfolding onVerify
+  verify-dropped g e = choose-yes _ _ e
+
+  pub verify-taken : (g : ℕ) → holdsVerify (linkAt b i) g ≡ false → full (b .n) (linkAt b i) ≡ false
+      → let k = primeCheck (withLink b i (withVerify (linkAt b i) g)) [] in onVerify b i g ≡ accepts (k .base) (k .says)
+  unfolding onVerify
+  verify-taken g p q = choose-no _ _ (or-neither p q) ∙ prime-lone _ .0
+
+  pub correct-dropped : (v : List ℕ) → linkAt b i .held ≡ 3 → onCorrectFinal b i v ≡ discards b
+  unfolding onCorrectFinal
+  correct-dropped v e = choose-yes _ _ (eq-eqb (linkAt b i .held) 3 e)
+
+  pub correct-taken : (v : List ℕ) → (linkAt b i .held ≡ 3 → ⊥) → onCorrectFinal b i v ≡ voteAndCheck (withLink b i (withVector (linkAt b i) 3 v)) v
+  unfolding onCorrectFinal voteAndCheck
+  correct-taken v p = choose-no _ _ (ne-eqb (linkAt b i .held) 3 p)
+
+  pub verify-final-dropped : (v : List ℕ) → (linkAt b i .held ≡ 0 → ⊥) → onVerifyFinal b i v ≡ discards b
+  unfolding onVerifyFinal
+  verify-final-dropped v e = choose-yes _ _ (ap not (ne-eqb (linkAt b i .held) 0 e))
+
+  pub verify-final-taken : (v : List ℕ) → linkAt b i .held ≡ 0 → let k = secondaryCheck (withLink b i (withVector (linkAt b i) 4 v)) v [] in onVerifyFinal b i v ≡ accepts (k .base) (k .says)
+  unfolding onVerifyFinal
+  verify-final-taken v p = choose-no _ _ (ap not (eq-eqb (linkAt b i .held) 0 p)) ∙ secondary-lone _ v .0
+
+-- ---- the vote
+pub voted : (b : Base) (v : List ℕ) → votes b v ≡ true → let k = secondaryCheck (withSent b) v [] in voteAndCheck b v ≡ accepts (k .base) (verifyFinal v ∷ k .says)
+unfolding voteAndCheck vote accepts
+voted b v e = ap (λ (d : Done). secondaryCheck (d .base) v (d .says)) (choose-yes (accepts (withSent b) (verifyFinal v ∷ [])) (accepts b []) e) ∙ secondary-said (withSent b) v (verifyFinal v)
+
+pub unvoted : (b : Base) (v : List ℕ) → votes b v ≡ false → let k = secondaryCheck b v [] in voteAndCheck b v ≡ accepts (k .base) (k .says)
+unfolding voteAndCheck vote accepts
+unvoted b v e = ap (λ (d : Done). secondaryCheck (d .base) v (d .says)) (choose-no (accepts (withSent b) (verifyFinal v ∷ [])) (accepts b []) e) ∙ secondary-lone b v .0
+
+-- a link that is not full has a place left for a Verify
+pub full-room : (n : ℕ) (l : Link) → full n l ≡ false → n ≤ mostBases → l .«verify_count» < listRoom
+unfolding full used
+full-room n l e h = omega (arith, leb-false (n + 1) (used l) e)
+
+-- one part alone: what a check broadcasts is all that the call does
+pub one-room : (d k : Done) → d ≡ accepts (k .base) (k .says) → length (encodeAll (d .says)) ≡ length (encodeAll (k .says))
+unfolding accepts
+one-room d k e = ap (λ (x : Done). length (encodeAll (x .says))) e
+
+pub one-output : (d k : Done) (output after : List ℕ) → d ≡ accepts (k .base) (k .says) → after ≡ outputOf k output → after ≡ outputOf d output
+unfolding accepts outputOf
+one-output d k output after e p = p ∙ ap (λ (x : Done). over (encodeAll (x .says)) output) (sym e)
+
+-- a vector message stored on the link at place i: the array holds the list
+pub stored-vector : (b : Base) (i kind n : ℕ) (v : List ℕ) → Holds n v → let l = linkAt b i in
+    withLink b i (record { announce = l .announce; verifies = l .verifies; list = v; «verify_count» = l .«verify_count»; held = kind }) ≡ withLink b i (withVector l kind (take n v))
+unfolding withVector
+stored-vector b i kind n v h =
+    let l = linkAt b i in
+    ap (λ (list : List ℕ). withLink b i (record { announce = l .announce; verifies = l .verifies; list = list; «verify_count» = l .«verify_count»; held = kind })) h

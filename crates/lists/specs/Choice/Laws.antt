@@ -57,6 +57,15 @@ unfolding and
 and-no true = refl
 and-no false = refl
 
+pub or-first : {a : Bool} (b : Bool) → a ≡ true → or a b ≡ true
+unfolding or
+or-first b e = rw e
+
+pub or-second : (a : Bool) {b : Bool} → b ≡ true → or a b ≡ true
+unfolding or
+or-second true e = refl
+or-second false e = e
+
 pub or-true : (a b : Bool) → or a b ≡ true → (a ≡ true) ⊎ (b ≡ true)
 unfolding or
 or-true true b e = inl refl

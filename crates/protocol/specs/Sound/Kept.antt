@@ -18,7 +18,8 @@ use Rattle.protocol.specs.Record.Memory.{Sized}
 use Rattle.protocol.specs.Sound.{stopped, finalSound, recordRefusal}
 use Rattle.protocol.specs.Sound.Laws.{ListParts, parts-list}
 use Rattle.protocol.specs.Steps.{Done, discards, accepts, withState, withFinal, stops, onMessage, begins, startStep, start, arrivalStep, arrival}
-use Rattle.protocol.specs.Steps.Cases.{Decides, prime, secondary, Ends, discarding, runningOn, stopping, message-ends, begun, afterStart, Heard, arrival-heard, start-step-cases, start-answered, arrival-step-cases, arrival-answered}
+use Rattle.protocol.specs.Steps.Cases.{Decides, prime, secondary, Ends, discarding, runningOn, stopping, message-ends, begun, afterStart, start-step-cases, arrival-step-cases}
+use Rattle.protocol.specs.Steps.Refusals.{Heard, arrival-heard, start-answered, arrival-answered}
 use Rattle.protocol.specs.Steps.Decided.{Roster, decides-roster, roster-padded}
 use Rattle.protocol.specs.Steps.Laws.{SameSetting, takes-rest}
 use Rattle.protocol.specs.Steps.Memory.{takes-sized, stops-sized, begun-sized}

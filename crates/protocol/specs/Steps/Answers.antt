@@ -18,7 +18,8 @@ use Rattle.protocol.specs.declared.Base.{Base}
 use Rattle.protocol.specs.Sound.Idle.{stopped-not-idle}
 use Rattle.protocol.specs.Sound.{idle, stopped, recordRefusal}
 use Rattle.protocol.specs.Steps.{accepted, discarded, Done, refuses, discards, accepts, stops, onMessage, begins, startStep, start, arrivalStep, outputRefusal, unless, arrivalRefusal, arrival, encodeAll, outputOf}
-use Rattle.protocol.specs.Steps.Cases.{Ends, discarding, runningOn, stopping, message-ends, begun, afterStart, start-step-cases, arrival-step-cases, arrival-stopped, arrival-idle, start-cases, arrival-cases}
+use Rattle.protocol.specs.Steps.Cases.{Ends, discarding, runningOn, stopping, message-ends, begun, afterStart, start-step-cases, arrival-step-cases, arrival-stopped, arrival-idle}
+use Rattle.protocol.specs.Steps.Refusals.{start-cases, arrival-cases}
 use Rattle.protocol.specs.Net.{callRefusal}
 
 -- nothing is changed and nothing broadcast

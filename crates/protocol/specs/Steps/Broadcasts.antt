@@ -23,7 +23,8 @@ use Rattle.protocol.specs.Sound.{recordRefusal}
 use Rattle.protocol.specs.Sound.Laws.{record-passed}
 use Rattle.protocol.specs.Sound.Running.{Runs, admitted-runs, begun-runs, takes-runs}
 use Rattle.protocol.specs.Steps.{Done, refuses, discards, accepts, withState, stops, onMessage, begins, startStep, start, arrivalStep, arrival}
-use Rattle.protocol.specs.Steps.Cases.{Takes, takesAnnounce, takesVerify, takesCorrect, takesAndVotes, takesVerifyFinal, Decides, prime, secondary, Ends, discarding, runningOn, stopping, message-ends, begun, afterStart, Heard, arrival-heard, start-step-cases, start-cases, arrival-step-cases, arrival-cases}
+use Rattle.protocol.specs.Steps.Cases.{Takes, takesAnnounce, takesVerify, takesCorrect, takesAndVotes, takesVerifyFinal, Decides, prime, secondary, Ends, discarding, runningOn, stopping, message-ends, begun, afterStart, start-step-cases, arrival-step-cases}
+use Rattle.protocol.specs.Steps.Refusals.{Heard, arrival-heard, start-cases, arrival-cases}
 use Rattle.protocol.specs.Steps.Decided.{Roster, decides-roster}
 use Rattle.protocol.specs.Steps.Laws.{takes-rest}
 use Rattle.protocol.specs.Steps.Memory.{takes-words, stops-words, begun-sized, begun-words}

@@ -12,7 +12,7 @@ use Rattle.protocol.specs.Sound.{stopped, recordRefusal}
 use Rattle.protocol.specs.Sound.Kept.{Kept, same-setting, start-step-kept, arrival-step-kept}
 use Rattle.protocol.specs.Steps.{Done, refuses, start, arrival}
 use Rattle.protocol.specs.Steps.Answers.{Unchanged, stopped-start, stopped-arrival}
-use Rattle.protocol.specs.Steps.Cases.{start-cases, arrival-cases, arrival-heard}
+use Rattle.protocol.specs.Steps.Refusals.{start-cases, arrival-cases, arrival-heard}
 use Rattle.protocol.specs.Steps.Laws.{SameSetting}
 
 -- a call, with its data: a start with the length of its output; an arrival with its link number, its burst and the length of its output

@@ -1,30 +1,23 @@
--- The ways in which a call can end, read off the steps once. A running base discards a message, or takes it in and runs on, or takes it in and stops by the
--- check that follows. An arrival at an idle base is one at the base just started. A call is turned down or is a step. Every theorem about the steps goes
--- by these cases: what holds of each way holds of the call.
-use Prim.Native.Nat.{ℕ, _-_, _<_}
-use mathlib.Core.Path.{_≡_, refl, _∙_, subst}
+-- The ways in which a step can end, read off the steps once. A running base discards a message, or takes it in and runs on, or takes it in and stops by the
+-- check that follows. An arrival at an idle base is one at the base just started. Every theorem about the steps goes by these cases: what holds of each
+-- way holds of the step.
+use Prim.Native.Nat.{ℕ, _<_}
+use mathlib.Core.Path.{_≡_, refl, _∙_}
 use mathlib.Core.Logic.{_≢_}
-use mathlib.Core.Bool.{true, false, not}
+use mathlib.Core.Bool.{true, false}
 use mathlib.Core.List.{List, [], _∷_}
 use native.Mathlib.Omega.{arith}
-use borrow.Author.Tests.{ltb-false, leb-false, eqb-true, eqb-false, not-false}
-use lib.Dec.{eqb}
-use Rattle.limits.specs.Refusals.{NetSize}
-use Rattle.limits.specs.Refusals.Laws.{net-passes}
-use Rattle.lists.specs.Choice.{choose, or, first}
-use Rattle.lists.specs.Choice.Laws.{choose-ind, choose-yes, choose-no, or-false, passed, first-none, first-passed}
-use Rattle.lists.specs.Lists.{member, sort, Below}
-use Rattle.frame.specs.Message.{Message, announce, verify, correctFinal, verifyFinal, kindOf, idsOf, holdsOne, expected, Valid}
-use Rattle.frame.specs.Reading.{burstRefusal, readRefusal, messageOf}
-use Rattle.frame.specs.Reading.Theorems.{accepted-sent, message-unique}
+use borrow.Author.Tests.{leb-false, eqb-true, eqb-false, not-false}
+use Rattle.lists.specs.Choice.{choose, or}
+use Rattle.lists.specs.Choice.Laws.{choose-ind, choose-yes, choose-no, or-false}
+use Rattle.lists.specs.Lists.{member, sort}
+use Rattle.frame.specs.Message.{Message, announce, verify, correctFinal, verifyFinal, kindOf, idsOf, holdsOne, expected}
 use Rattle.protocol.specs.declared.Base.{Base}
 use Rattle.protocol.specs.Links.{announces, holdsVerify, full}
 use Rattle.protocol.specs.Record.{linkAt, certified}
-use Rattle.protocol.specs.Sound.{idle, stopped, recordRefusal}
+use Rattle.protocol.specs.Sound.{idle, stopped}
 use Rattle.protocol.specs.Sound.Idle.{idle-not-stopped}
-use Rattle.protocol.specs.Sound.Laws.{record-passed}
-use Rattle.protocol.specs.Net.{callRefusal}
-use Rattle.protocol.specs.Steps.{Done, refuses, discards, accepts, withLink, withSent, withState, withAnnounce, withVerify, withVector, primeHolds, secondaryHolds, stops, primeCheck, secondaryCheck, onAnnounce, onVerify, votes, vote, onCorrectFinal, onVerifyFinal, onMessage, begins, startStep, andThen, arrivalStep, linkRefusal, outputRefusal, unless, start, arrivalRefusal, arrival}
+use Rattle.protocol.specs.Steps.{Done, discards, accepts, withLink, withSent, withState, withAnnounce, withVerify, withVector, primeHolds, secondaryHolds, stops, primeCheck, secondaryCheck, onAnnounce, onVerify, votes, vote, onCorrectFinal, onVerifyFinal, onMessage, begins, startStep, andThen, arrivalStep, start, arrival}
 
 -- ---- an arrival at a running base
 -- b with a vector message held on the link at place i
@@ -126,55 +119,3 @@ pub arrival-step-cases : (P : Done → Type 0) (b : Base) (i : ℕ) (m : Message
     → (b .state ≡ 1 → P (onMessage b i m)) → P (arrivalStep b i m)
 unfolding arrivalStep andThen begins accepts afterStart
 arrival-step-cases P b i m halted fresh on = choose-ind P (stopped b) halted (λ p. choose-ind P (idle b) fresh (λ q. on (running-state b p q)))
-
--- ---- the calls
--- a call that is not turned down is a step
-unless-cases : (P : Done → Type 0) (r : ℕ) (b : Base) (d : Done) → (r ≢ 0 → P (refuses b r)) → (r ≡ 0 → P d) → P (unless r b d)
-unfolding unless
-unless-cases P r b d down on = choose-ind P (eqb r 0) (λ e. on (eqb-true r 0 e)) (λ e. down (eqb-false r 0 e))
-
-pub start-cases : (P : Done → Type 0) (b : Base) (room : ℕ) → ((r : ℕ) → r ≢ 0 → P (refuses b r)) → (recordRefusal b ≡ 0 → P (startStep b)) → P (start b room)
-unfolding start
-start-cases P b room down on = unless-cases P (first (recordRefusal b) (outputRefusal room)) b (startStep b) (down _) (λ e. on (first-passed _ _ e .0))
-
-pub arrival-cases : (P : Done → Type 0) (b : Base) (link : ℕ) (burst : List ℕ) (room : ℕ) → ((r : ℕ) → r ≢ 0 → P (refuses b r))
-    → (arrivalRefusal b link burst room ≡ 0 → P (arrivalStep b (link - 1) (messageOf burst))) → P (arrival b link burst room)
-unfolding arrival
-arrival-cases P b link burst room down = unless-cases P (arrivalRefusal b link burst room) b (arrivalStep b (link - 1) (messageOf burst)) (down _)
-
--- what holds of the step holds of a call that is not turned down
-refuses-not : (P : Done → Type 0) (b : Base) (r : ℕ) → r ≢ 0 → callRefusal (refuses b r .answer) ≡ 0 → P (refuses b r)
-unfolding refuses callRefusal
-refuses-not P b r h e = absurd (h e)
-
-pub start-answered : (P : Done → Type 0) (b : Base) (room : ℕ) → (recordRefusal b ≡ 0 → P (startStep b)) → callRefusal (start b room .answer) ≡ 0 → P (start b room)
-start-answered P b room on = start-cases (λ (d : Done). callRefusal (d .answer) ≡ 0 → P d) b room (refuses-not P b) (λ e _. on e)
-
-pub arrival-answered : (P : Done → Type 0) (b : Base) (link : ℕ) (burst : List ℕ) (room : ℕ) → (arrivalRefusal b link burst room ≡ 0 → P (arrivalStep b (link - 1) (messageOf burst)))
-    → callRefusal (arrival b link burst room .answer) ≡ 0 → P (arrival b link burst room)
-arrival-answered P b link burst room on = arrival-cases (λ (d : Done). callRefusal (d .answer) ≡ 0 → P d) b link burst room (refuses-not P b) (λ e _. on e)
-
--- what an arrival that is not turned down has: a record to work on, a link's place and a valid message
-pub record Heard (b : Base) (i : ℕ) (m : Message) : Type 0 where
-  pub refusal : recordRefusal b ≡ 0
-  pub place : i < b .n - 1
-  pub valid : Valid (b .n) m
-
-pub burst-valid : (n : ℕ) → NetSize n → (s : List ℕ) → Below 256 s → burstRefusal n s ≡ 0 → Valid n (messageOf s)
-unfolding readRefusal
-burst-valid n N s bytes e = let S = accepted-sent n N s bytes (first-none _ (net-passes N) ∙ e) in subst (Valid n) (message-unique n N s S) (S .valid)
-
-place-of : (n link : ℕ) → NetSize n → linkRefusal n link ≡ 0 → link - 1 < n - 1
-unfolding linkRefusal
-place-of n link N e =
-    let p = or-false _ _ (passed _ 4 _ e .0) in
-    omega (arith, N .least, ltb-false link 1 (p .0), ltb-false (n - 1) link (p .1))
-
-pub arrival-heard : (b : Base) (link : ℕ) (burst : List ℕ) (room : ℕ) → Below 256 burst → arrivalRefusal b link burst room ≡ 0 → Heard b (link - 1) (messageOf burst)
-unfolding arrivalRefusal
-arrival-heard b link burst room bytes e =
-    let p = first-passed _ _ e in
-    let q = first-passed _ _ (p .1) in
-    let r = first-passed _ _ (q .1) in
-    let N = record-passed b (p .0) .net in
-    record { refusal = p .0; place = place-of (b .n) link N (q .0); valid = burst-valid (b .n) N burst bytes (r .1) }

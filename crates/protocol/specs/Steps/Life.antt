@@ -24,7 +24,8 @@ use Rattle.protocol.specs.Record.Memory.{Sized}
 use Rattle.protocol.specs.Sound.{idle}
 use Rattle.protocol.specs.Sound.Laws.{record-passed}
 use Rattle.protocol.specs.Steps.{Done, refuses, discards, accepts, withLink, withSent, withState, withFinal, withVerify, withVector, stops, onMessage, begins, startStep, arrivalStep}
-use Rattle.protocol.specs.Steps.Cases.{holding, Takes, takesAnnounce, takesVerify, takesCorrect, takesAndVotes, takesVerifyFinal, Decides, prime, secondary, Ends, discarding, runningOn, stopping, message-ends, begun, afterStart, Heard, arrival-heard, start-step-cases, arrival-step-cases, start-cases, arrival-cases}
+use Rattle.protocol.specs.Steps.Cases.{holding, Takes, takesAnnounce, takesVerify, takesCorrect, takesAndVotes, takesVerifyFinal, Decides, prime, secondary, Ends, discarding, runningOn, stopping, message-ends, begun, afterStart, start-step-cases, arrival-step-cases}
+use Rattle.protocol.specs.Steps.Refusals.{Heard, arrival-heard, start-cases, arrival-cases}
 use Rattle.protocol.specs.Steps.Calls.{Call, starts, arrives, CallBytes, called, AllBytes, after, life, call-held, after-setting}
 use Rattle.protocol.specs.Steps.Certified.{announcedTo, announced-kept, announced-added}
 use Rattle.protocol.specs.Steps.Checks.{vote-parts}

@@ -18,7 +18,8 @@ use Rattle.protocol.specs.Record.Memory.{Sized}
 use Rattle.protocol.specs.Sound.{idle, recordRefusal}
 use Rattle.protocol.specs.Sound.Laws.{record-passed, sound-parts, idle-unsent}
 use Rattle.protocol.specs.Steps.{Done, refuses, discards, accepts, withState, onMessage, begins, startStep, start, arrivalStep, arrival, encodeAll, lengths}
-use Rattle.protocol.specs.Steps.Cases.{begun, afterStart, Heard, arrival-heard, arrival-idle, start-step-cases, start-cases, start-answered, arrival-step-cases, arrival-cases, arrival-answered}
+use Rattle.protocol.specs.Steps.Cases.{begun, afterStart, arrival-idle, start-step-cases, arrival-step-cases}
+use Rattle.protocol.specs.Steps.Refusals.{Heard, arrival-heard, start-cases, start-answered, arrival-cases, arrival-answered}
 use Rattle.protocol.specs.Steps.Sizes.{Brief, bytes-append, bytes-one, said-fits, valid-fits, message-brief}
 use Rattle.protocol.specs.Steps.First.{Quiet, idle-first}
 
