@@ -12,7 +12,7 @@ use Rattle.frame.specs.Message.{Message, Valid}
 use Rattle.protocol.specs.declared.Base.{Base}
 use Rattle.protocol.specs.Sound.Kept.{Kept, start-step-kept, arrival-step-kept}
 use Rattle.protocol.specs.Steps.{Done, startStep, arrivalStep}
-use Rattle.protocol.specs.Steps.Cases.{Heard}
+use Rattle.protocol.specs.Steps.Refusals.{Heard}
 use Rattle.protocol.specs.Steps.Broadcasts.{AllValid, Spoken, start-step-spoken, arrival-step-spoken}
 use Rattle.protocol.specs.Net.{replaced}
 use Rattle.protocol.specs.Agreement.Views.{Said}

@@ -15,7 +15,7 @@ use Rattle.frame.specs.Message.{Message, Valid}
 use Rattle.frame.specs.Reading.{burstRefusal, messageOf}
 use Rattle.protocol.specs.declared.Base.{Base}
 use Rattle.protocol.specs.Steps.{startStep, start, arrivalStep, arrival}
-use Rattle.protocol.specs.Steps.Cases.{burst-valid}
+use Rattle.protocol.specs.Steps.Refusals.{burst-valid}
 use Rattle.protocol.specs.Numbering.{linkTo}
 use Rattle.protocol.specs.Net.{Net, Pair, good, Event, starts, carry, forge, at, broadcast, call, eventRefusal, callRefusal, refusal, carriedAfter, settled}
 use Rattle.protocol.specs.Agreement.{Proper}

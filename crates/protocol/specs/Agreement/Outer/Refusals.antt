@@ -16,7 +16,7 @@ use Rattle.frame.specs.Encoding.{encode}
 use Rattle.frame.specs.Reading.{burstRefusal, messageOf}
 use Rattle.protocol.specs.declared.Base.{Base}
 use Rattle.protocol.specs.Steps.{Done, startStep, start, arrivalStep, arrivalRefusal, arrival}
-use Rattle.protocol.specs.Steps.Cases.{start-answered, arrival-answered}
+use Rattle.protocol.specs.Steps.Refusals.{start-answered, arrival-answered}
 use Rattle.protocol.specs.Net.{Net, Pair, good, carry, forge, broadcast, eventRefusal, callRefusal, carriedAfter}
 use Rattle.protocol.specs.Agreement.Invariant.{broadcastAt}
 use Rattle.protocol.specs.Agreement.Outer.Frames.{frame-at}
