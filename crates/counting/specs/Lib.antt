@@ -1,1 +1,9 @@
 pub mod Sums
+pub mod Search
+pub mod Counts
+pub mod Parts
+pub mod Degrees
+pub mod Spread
+pub mod Suspicion
+pub mod Pigeonhole
+pub mod Gap

@@ -6,6 +6,9 @@ use lib.Dec.{eqb, ltb, leb}
 use lib.ListN.{length, getD, replicate}
 use Rattle.lists.specs.Choice.{choose, and, or}
 pub mod Laws
+pub mod Order
+pub mod Places
+pub mod Same
 pub mod Sets
 pub mod Zeros
 pub mod Sorted

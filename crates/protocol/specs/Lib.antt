@@ -5,3 +5,4 @@ pub mod Steps
 pub mod Numbering
 pub mod Net
 pub mod Table
+pub mod Agreement

@@ -114,7 +114,7 @@ begun-spent : (b : Base) → idle b ≡ true → spent (begun b) ≡ spent b + 2
 unfolding spent withState linkCount linkAt idle
 begun-spent b off = let heard = length (announcedTo b) in omega (arith, spent-start heard (b .sent), ap (λ (s : ℕ). spentBy s heard (b .sent)) (eqb-true (b .state) 0 off))
 
-start-step-paid : (b : Base) → Paid b (startStep b)
+pub start-step-paid : (b : Base) → Paid b (startStep b)
 start-step-paid b = start-step-cases (Paid b) b (λ off. go (begun-spent b off)) (λ _. discards-paid b)
   where
     go : spent (begun b) ≡ spent b + 2 → Paid b (begins b)
@@ -124,7 +124,7 @@ after-paid : (b : Base) (d : Done) → idle b ≡ true → Paid (begun b) d → 
 unfolding afterStart
 after-paid b d off p = omega (arith, p, begun-spent b off)
 
-arrival-step-paid : (b : Base) (i : ℕ) (m : Message) → Sized b → Heard b i m → Paid b (arrivalStep b i m)
+pub arrival-step-paid : (b : Base) (i : ℕ) (m : Message) → Sized b → Heard b i m → Paid b (arrivalStep b i m)
 arrival-step-paid b i m S H = arrival-step-cases (Paid b) b i m (λ _. discards-paid b)
     (λ off. after-paid b (onMessage (begun b) i m) off (unfold withState in message-paid (begun b) i m (begun-sized b S) N (H .place) (H .valid) refl))
     (λ on. message-paid b i m S N (H .place) (H .valid) on)

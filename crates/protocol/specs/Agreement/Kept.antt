@@ -1,0 +1,26 @@
+-- A step of the net keeps the invariant, so it holds in every state that the net reaches.
+use Prim.Native.Nat.{ℕ}
+use mathlib.Core.List.{List}
+use Rattle.protocol.specs.Agreement.Invariant.{Premises, State, Invariant}
+use Rattle.protocol.specs.Agreement.NetSteps.{NetStep}
+pub mod Logs
+pub mod Finals
+pub mod Deliveries
+
+pub kept : (n t : ℕ) (faulty : ℕ → ℕ → ℕ) (id : ℕ → ℕ) (truth : List ℕ) → Premises n t faulty id truth → (N M : State) → Invariant n t faulty id truth N → NetStep n t faulty id N M
+    → Invariant n t faulty id truth M
+kept n t faulty id truth P N M I S = record {
+  sound = Logs.sound-kept n t faulty id truth N M I S;
+  settled = Logs.settled-kept n t faulty id truth N M I S;
+  backed = Logs.backed-kept n t faulty id truth N M I S;
+  start-told = Logs.start-told-kept n t faulty id truth N M I S;
+  names-told = Logs.names-told-kept n t faulty id truth N M I S;
+  vote-told = Logs.vote-told-kept n t faulty id truth N M I S;
+  vote-one = Logs.vote-one-kept n t faulty id truth N M I S;
+  stop-told = Logs.stop-told-kept n t faulty id truth N M I S;
+  heard = Logs.heard-kept n t faulty id truth N M I S;
+  delivered = Deliveries.delivered-kept n t faulty id truth N M I S;
+  final-true = Finals.final-true-kept n t faulty id truth P N M I S;
+  prime-knows = Finals.prime-knows-kept n t faulty id truth P N M I S;
+  prime-first = Finals.prime-first-kept n t faulty id truth P N M I S;
+}
