@@ -1,57 +1,52 @@
+-- `leader::leader_of` meets its contract: before place i, the largest of the places from i on is known.
+use Prim.Native.Nat.{ℕ, _≤_}
+use mathlib.Core.Path.{_≡_, ap, _∙_}
+use native.Mathlib.Omega.{arith}
+use borrow.Author.Needs.{needs}
+use lib.ListN.{length, drop}
+use Rattle.leader.specs.Leading.{leader-none, leader-new, leader-same}
+use Rattle.protocol.specs.Steps.{leaderOf}
 use Rattle.leader.proofs.leader_of.Statement.{statement}
 use Rattle.leader.proofs.leader_of.Tie as tie
-use Rattle.leader.proofs.leader_of.Reads as reads
-use Rattle.leader.proofs.leader_of.Lts as lts
 
 abbrev Inv-loop : tie.InvT-loop
-Inv-loop list i₀ most₀ i most = ?
+Inv-loop list i₀ most₀ i most = (most ≡ leaderOf (drop i (list))) × (i ≤ length (list))
 
 abbrev μ-loop : tie.MeasureT-loop
-μ-loop list i₀ most₀ i most = ?
+μ-loop list i₀ most₀ i most = i
 
--- src/lib.rt:15:5
 loop-holds : tie.Need-loop-holds Inv-loop μ-loop
-loop-holds c = ?
+loop-holds c = (leader-none (c .args .list .now), omega arith)
 
--- src/lib.rt:16:9
 sub-i : tie.Need-sub-i Inv-loop μ-loop
-sub-i c = ?
+sub-i c = omega (arith, c .loop-test .taken)
 
--- src/lib.rt:17:19
 mul-if1 : tie.Need-mul-if1 Inv-loop μ-loop
-mul-if1 c = ?
+mul-if1 c = search needs
 
--- src/lib.rt:17:19
 shared-slice-read-if1 : tie.Need-shared-slice-read-if1 Inv-loop μ-loop
-shared-slice-read-if1 c = ?
+shared-slice-read-if1 c = omega (arith, c .before .loop-test .taken, c .before .before .loop .inv .1)
 
--- src/lib.rt:18:20
 mul-most : tie.Need-mul-most Inv-loop μ-loop
-mul-most c = ?
+mul-most c = search needs
 
--- src/lib.rt:18:20
 shared-slice-read-most : tie.Need-shared-slice-read-most Inv-loop μ-loop
-shared-slice-read-most c = ?
+shared-slice-read-most c = omega (arith, c .before .before .before .loop-test .taken, c .before .before .before .before .loop .inv .1)
 
--- src/lib.rt:15:5
 loop-less : tie.Need-loop-less Inv-loop μ-loop
-loop-less c = ?
+loop-less c = omega (arith, c .before .before .before .loop-test .taken)
 
--- src/lib.rt:15:5
 loop-again : tie.Need-loop-again Inv-loop μ-loop
-loop-again c = ?
+loop-again c = (leader-new _ _ _ (c .before .before .before .loop-test .taken) (c .before .before .before .before .loop .inv .1) (c .before .before .before .before .loop .inv .0) (c .before .if1 .taken), omega (arith, c .before .before .before .before .loop .inv .1))
 
--- src/lib.rt:15:5
 loop-less-2 : tie.Need-loop-less-2 Inv-loop μ-loop
-loop-less-2 c = ?
+loop-less-2 c = omega (arith, c .before .before .loop-test .taken)
 
--- src/lib.rt:15:5
 loop-again-2 : tie.Need-loop-again-2 Inv-loop μ-loop
-loop-again-2 c = ?
+loop-again-2 c = (leader-same _ _ _ (c .before .before .loop-test .taken) (c .before .before .before .loop .inv .1) (c .before .before .before .loop .inv .0) (c .if1 .left), omega (arith, c .before .before .before .loop .inv .1))
 
--- src/lib.rt:10:1
 returns : tie.Need-returns Inv-loop μ-loop
-returns c = ?
+returns c = let z : c .before .loop .i ≡ 0 = omega (arith, c .loop-test .left) in c .before .loop .inv .0 ∙ ap (λ (k : ℕ). leaderOf (drop k (c .before .before .args .list .now))) z
 
 pub leader-of-spec : {M : Type 1} → statement M
 leader-of-spec =

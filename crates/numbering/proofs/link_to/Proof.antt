@@ -1,25 +1,20 @@
 -- `numbering::link_to` meets its contract.
+use mathlib.Core.Path.{refl}
+use native.Mathlib.Omega.{arith}
+use borrow.Author.Tests.{lt-ltb, le-ltb}
 use Rattle.lists.specs.Choice.Laws.{chosen-yes, chosen-no}
 use Rattle.protocol.specs.Numbering.{linkTo}
-use borrow.Author.Tests.{lt-ltb, le-ltb}
-use native.Mathlib.Omega.{arith}
-use mathlib.Core.Path.{refl}
 use Rattle.numbering.proofs.link_to.Statement.{statement}
 use Rattle.numbering.proofs.link_to.Tie as tie
-use Rattle.numbering.proofs.link_to.Reads as reads
-use Rattle.numbering.proofs.link_to.Lts as lts
 
--- src/lib.rt:22:9
 returns : tie.Need-returns
 unfolding linkTo
 returns c = chosen-yes _ (lt-ltb _ _ (c .if1 .taken)) refl
 
--- src/lib.rt:25:9
 returns-2 : tie.Need-returns-2
 unfolding linkTo
 returns-2 c = chosen-no _ (le-ltb _ _ (c .before .if1 .left)) (omega (arith, c .if2 .taken))
 
--- src/lib.rt:17:1
 returns-3 : tie.Need-returns-3
 unfolding linkTo
 returns-3 c = chosen-no _ (le-ltb _ _ (c .before .if1 .left)) refl
