@@ -1,8 +1,8 @@
 // An Announce: the identifier that the base at a link's end calls its own.
-use crate::say::accepted;
-use crate::say::discarded;
 use crate::say::say_one;
 use crate::stop::prime_check;
+use answers::accepted;
+use answers::discarded;
 use held::has_announce;
 use held::is_full;
 use protocol::Base;

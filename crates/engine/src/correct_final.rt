@@ -1,8 +1,8 @@
 // A Correct-Final: the list with which the base at a link's end has stopped.
-use crate::say::accepted;
-use crate::say::discarded;
 use crate::say::say_list;
 use crate::stop::secondary_check;
+use answers::accepted;
+use answers::discarded;
 use checks::is_vote;
 use limits::MOST_BASES;
 use protocol::Base;

@@ -1,8 +1,8 @@
--- `engine::say::discarded` meets its contract: nothing is broadcast and nothing changes.
+-- `answers::discarded` meets its contract: nothing is broadcast and nothing changes.
 use mathlib.Core.Path.{refl}
 use Rattle.protocol.specs.Steps.{stepOf, discards, outcomeOf, lengths}
-use Rattle.engine.proofs.say.discarded.Statement.{statement}
-use Rattle.engine.proofs.say.discarded.Tie as tie
+use Rattle.answers.proofs.discarded.Statement.{statement}
+use Rattle.answers.proofs.discarded.Tie as tie
 
 returns : tie.Need-returns
 unfolding stepOf discards outcomeOf lengths

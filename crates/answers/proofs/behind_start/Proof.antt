@@ -1,9 +1,9 @@
--- `engine::begin::behind_start` meets its contract.
+-- `answers::behind_start` meets its contract.
 use mathlib.Core.Path.{sym, ap}
 use borrow.Author.Needs.{needs}
-use Rattle.engine.specs.Parts.{behindStart}
-use Rattle.engine.proofs.begin.behind_start.Statement.{statement}
-use Rattle.engine.proofs.begin.behind_start.Tie as tie
+use Rattle.answers.specs.Behind.{behindStart}
+use Rattle.answers.proofs.behind_start.Statement.{statement}
+use Rattle.answers.proofs.behind_start.Tie as tie
 
 enum-known-outcome : tie.Need-enum-known-outcome
 enum-known-outcome c = search needs

@@ -1,12 +1,12 @@
--- `engine::arrival::place_refusal` meets its contract: numbers 1 to 4, then 5, then 6.
+-- `soundness::refusals::place_refusal` meets its contract: numbers 1 to 4, then 5, then 6.
 use mathlib.Core.Path.{sym, _∙_}
 use native.Mathlib.Omega.{arith}
 use borrow.Author.Needs.{needs}
 use Rattle.protocol.specs.Steps.Refusals.{link-short, link-far, link-near, output-short, output-wide}
 use Rattle.lists.specs.Choice.Laws.{first-none, first-given}
-use Rattle.engine.specs.Parts.{placeRefusal}
-use Rattle.engine.proofs.arrival.place_refusal.Statement.{statement}
-use Rattle.engine.proofs.arrival.place_refusal.Tie as tie
+use Rattle.soundness.specs.Place.{placeRefusal}
+use Rattle.soundness.proofs.refusals.place_refusal.Statement.{statement}
+use Rattle.soundness.proofs.refusals.place_refusal.Tie as tie
 
 record-refusal-requires : tie.Need-record-refusal-requires
 record-refusal-requires c κs = search needs

@@ -1,10 +1,10 @@
--- `engine::start::start_refusal` meets its contract: numbers 1 to 4, then 6.
+-- `soundness::refusals::start_refusal` meets its contract: numbers 1 to 4, then 6.
 use mathlib.Core.Path.{sym, _∙_}
 use borrow.Author.Needs.{needs}
 use Rattle.protocol.specs.Steps.Refusals.{output-short, output-wide}
 use Rattle.lists.specs.Choice.Laws.{first-none, first-given}
-use Rattle.engine.proofs.start.start_refusal.Statement.{statement}
-use Rattle.engine.proofs.start.start_refusal.Tie as tie
+use Rattle.soundness.proofs.refusals.start_refusal.Statement.{statement}
+use Rattle.soundness.proofs.refusals.start_refusal.Tie as tie
 
 record-refusal-requires : tie.Need-record-refusal-requires
 record-refusal-requires c κs = search needs

@@ -1,8 +1,8 @@
--- `engine::say::refused` meets its contract: nothing is broadcast and nothing changes.
+-- `answers::refused` meets its contract: nothing is broadcast and nothing changes.
 use mathlib.Core.Path.{refl}
 use Rattle.protocol.specs.Steps.{stepOf, refuses, outcomeOf}
-use Rattle.engine.proofs.say.refused.Statement.{statement}
-use Rattle.engine.proofs.say.refused.Tie as tie
+use Rattle.answers.proofs.refused.Statement.{statement}
+use Rattle.answers.proofs.refused.Tie as tie
 
 returns : tie.Need-returns
 unfolding stepOf refuses outcomeOf
