@@ -48,10 +48,10 @@ pub fn start_refusal(base: Base, room: usize) -> u8
     if record != 0 {
         return record;
     }
-    if room < OUTPUT_ROOM {
-        return 6;
+    if OUTPUT_ROOM <= room {
+        return 0;
     }
-    0
+    6
 }
 
 // Numbers 1 to 6 of an arrival, 0 for none.

@@ -13,10 +13,10 @@ returns : tie.Need-returns
 returns c = let e = c .before .record-refusal .ensures in e ∙ sym (first-given _ (λ z. c .if1 .taken (e ∙ z)))
 
 returns-2 : tie.Need-returns-2
-returns-2 c = sym (first-none _ (sym (c .before .before .record-refusal .ensures) ∙ c .before .if1 .left) ∙ output-short _ (c .if2 .taken))
+returns-2 c = sym (first-none _ (sym (c .before .before .record-refusal .ensures) ∙ c .before .if1 .left) ∙ output-wide _ (c .if2 .taken))
 
 returns-3 : tie.Need-returns-3
-returns-3 c = sym (first-none _ (sym (c .before .before .record-refusal .ensures) ∙ c .before .if1 .left) ∙ output-wide _ (c .if2 .left))
+returns-3 c = sym (first-none _ (sym (c .before .before .record-refusal .ensures) ∙ c .before .if1 .left) ∙ output-short _ (c .if2 .left))
 
 pub start-refusal-spec : {M : Type 1} → statement M
 start-refusal-spec = tie.close (tie.spec record-refusal-requires returns returns-2 returns-3)
