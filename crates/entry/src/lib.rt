@@ -24,8 +24,8 @@ pub fn arrive(base: &mut Base, link: usize, burst: &[u8], out: &mut [u8]) -> Out
 {
     let b = *base;
     let s = engine::arrival::arrive(b, link, burst, out);
-    let next = s.base;
-    *base = next;
+    let after = s.base;
+    *base = after;
     s.outcome
 }
 
