@@ -20,6 +20,16 @@ pub enum Event {
     Forge { from: usize, to: usize, bytes: Vec<u8> },
 }
 
+impl Event {
+    /// The base whose record the event's call is on.
+    pub fn receiver(&self) -> usize {
+        match *self {
+            Event::Start { at } => at,
+            Event::Carry { to, .. } | Event::Forge { to, .. } => to,
+        }
+    }
+}
+
 /// What a net begins with.
 #[derive(Clone, Debug, PartialEq, Eq)]
 pub struct Setting {

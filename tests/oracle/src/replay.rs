@@ -204,7 +204,9 @@ fn report_of(net: &Net, fault: Fault) -> String {
         let _ = write!(text, "base {} {state}", i + 1);
         if record.state >= 2 {
             let list = &record.final_list[..net.setting.n()];
-            list.iter().for_each(|id| drop(write!(text, " {id}")));
+            for id in list {
+                let _ = write!(text, " {id}");
+            }
             if let Leader::Is(leader) = model.leader(record) {
                 let _ = write!(text, " leader {leader}");
             }

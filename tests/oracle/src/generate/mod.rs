@@ -1,0 +1,11 @@
+//! Cases to try, made from a seed: each file makes one kind of them.
+
+pub mod arrivals;
+pub mod bursts;
+pub mod hostile;
+pub mod histories;
+pub mod records;
+pub mod refusals;
+pub mod schedules;
+pub mod settings;
+pub mod unsound;
