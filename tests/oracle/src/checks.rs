@@ -18,6 +18,10 @@ impl Base {
         std::iter::once(self.own).chain(announced).collect()
     }
 
+    pub fn is_certified(&self, id: u32) -> bool {
+        id == self.own || self.links.iter().any(|link| link.announce == Some(id))
+    }
+
     /// "The tally of an identifier is the number of links holding it as Verify, plus one if certified."
     pub fn tally(&self, id: u32) -> usize {
         let holding = |verifies: &[u32]| match self.fault {
@@ -26,7 +30,7 @@ impl Base {
         };
         let verified: usize = self.links.iter().map(|link| holding(&link.verifies)).sum();
         let announced_counts = self.fault == Fault::AnnounceCountedAsVerify && self.links.iter().any(|l| l.announce == Some(id) && !l.verifies.contains(&id));
-        verified + usize::from(self.certified().contains(&id)) + usize::from(announced_counts)
+        verified + usize::from(self.is_certified(id)) + usize::from(announced_counts)
     }
 
     /// "The tally of a list is the number of links holding a vector message with it."
@@ -61,18 +65,21 @@ impl Base {
         own_pairs + others
     }
 
-    pub fn prime_figures(&self) -> PrimeFigures {
-        let certified = self.certified();
-        let mut sum = certified.iter().map(|&id| self.tally(id)).sum();
-        if self.fault == Fault::TalliesAdded {
-            sum += self.links.iter().filter(|link| link.vector.is_some()).count();
+    /// The tallies of the certified identifiers, summed.
+    pub fn tally_sum(&self) -> usize {
+        let sum: usize = self.certified().into_iter().map(|id| self.tally(id)).sum();
+        match self.fault {
+            Fault::TalliesAdded => sum + self.links.iter().filter(|link| link.vector.is_some()).count(),
+            _ => sum,
         }
-        PrimeFigures { certified: certified.len(), sum, suspects: self.suspects() }
+    }
+
+    pub fn prime_figures(&self) -> PrimeFigures {
+        PrimeFigures { certified: self.certified().len(), sum: self.tally_sum(), suspects: self.suspects() }
     }
 
     /// "n identifiers are certified; their tallies sum to at least n² − 2t; at most t pairs are suspect."
     pub fn prime_check(&self) -> bool {
-        let figures = self.prime_figures();
         let needed = match self.fault {
             Fault::NoSumTest => 0,
             Fault::SumOneLess => self.n * self.n - 2 * self.t - 1,
@@ -84,7 +91,7 @@ impl Base {
             Fault::NoSuspectTest => usize::MAX,
             _ => self.t,
         };
-        figures.certified == self.n && figures.sum >= needed && figures.suspects <= allowed
+        self.certified().len() == self.n && self.tally_sum() >= needed && self.suspects() <= allowed
     }
 
     /// "The tally of V is at least t + 1 and two links hold Correct-Final V."

@@ -1,13 +1,13 @@
 //! What a run tries: first every small thing once, then cases of all kinds in turn, as long as it is let.
 
 use crate::case::Case;
-use crate::generate::{arrivals, bursts, histories, refusals, schedules, unsound};
+use crate::generate::{arrivals, bursts, forms, histories, refusals, schedules, unsound};
 use crate::rng::Rng;
 use crate::soundness::Rule;
 
-/// Each length of burst, each pair of refusals and each rule of soundness, some times over.
+/// Each length of burst, each form of a schedule's lines, each pair of refusals and each rule of soundness, some times over.
 pub fn sweep(rng: &mut Rng) -> Vec<Case> {
-    let mut cases = bursts::every_length(rng);
+    let mut cases = forms::schedules();
     for numbers in refusals::pairs() {
         for _ in 0..8 {
             cases.push(refusals::arrive(rng, &numbers));
@@ -17,6 +17,7 @@ pub fn sweep(rng: &mut Rng) -> Vec<Case> {
     for rule in Rule::ALL {
         cases.extend((0..24).map(|_| unsound::call(rng, rule)));
     }
+    cases.extend(bursts::every_length(rng));
     cases
 }
 

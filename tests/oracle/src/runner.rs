@@ -47,12 +47,16 @@ impl Tried {
     }
 }
 
-/// The first case, of the sweep and then of the endless row, in which the engine differs, with what differs.
-fn search(engine: &mut dyn Engine, seed: u64, time: Duration, tried: &mut Tried, progress: bool) -> Option<(Case, String)> {
+/// The endless row from a place on.
+fn row(seed: u64, from: u64) -> impl Iterator<Item = Case> {
+    (from..).map(move |place| plan::at(seed, place))
+}
+
+/// The first case in which the engine differs, with what differs.
+fn search(engine: &mut dyn Engine, cases: impl Iterator<Item = Case>, time: Duration, tried: &mut Tried, progress: bool) -> Option<(Case, String)> {
     let begin = Instant::now();
     let mut told = begin;
-    let sweep = plan::sweep(&mut Rng::new(seed)).into_iter();
-    for case in sweep.chain((0..).map(|place| plan::at(seed, place))) {
+    for case in cases {
         tried.count(&case);
         if let Some(what) = case.run(engine, &mut tried.reach) {
             return Some((case, what));
@@ -73,7 +77,8 @@ fn search(engine: &mut dyn Engine, seed: u64, time: Duration, tried: &mut Tried,
 pub fn run(engine: &mut dyn Engine, seconds: u64, seed: u64) -> bool {
     println!("{} against the model, {seconds} s, seed {seed}", engine.name());
     let mut tried = Tried::default();
-    let found = search(engine, seed, Duration::from_secs(seconds), &mut tried, true);
+    let cases = plan::sweep(&mut Rng::new(seed)).into_iter().chain(row(seed, 0));
+    let found = search(engine, cases, Duration::from_secs(seconds), &mut tried, true);
     tried.print();
     match found {
         None => {
@@ -112,12 +117,15 @@ fn tell(case: &Case, engine: &mut dyn Engine, seed: u64) {
 pub fn faults(seed: u64, only: Option<&str>) -> bool {
     let begin = Instant::now();
     let mut missed = 0;
+    let common = 1000;
+    let made: Vec<Case> = plan::sweep(&mut Rng::new(seed)).into_iter().chain(row(seed, 0).take(common)).collect();
     let all: Vec<Fault> = Fault::all().into_iter().filter(|fault| only.is_none_or(|name| fault.name() == name)).collect();
     for &fault in &all {
         let mut tried = Tried::default();
         let mut engine = Model { fault };
         let at = Instant::now();
-        match search(&mut engine, seed, Duration::from_secs(20), &mut tried, false) {
+        let cases = made.iter().cloned().chain(row(seed, common as u64));
+        match search(&mut engine, cases, Duration::from_secs(20), &mut tried, false) {
             Some((case, what)) => {
                 let what: String = what.chars().take(90).collect();
                 println!("caught {:<34} {:>6} cases {:>5} ms  {}: {what}", fault.name(), tried.total(), at.elapsed().as_millis(), case.kind());

@@ -2,8 +2,9 @@
 
 pub mod arrivals;
 pub mod bursts;
-pub mod hostile;
+pub mod forms;
 pub mod histories;
+pub mod hostile;
 pub mod records;
 pub mod refusals;
 pub mod schedules;

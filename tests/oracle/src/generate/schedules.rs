@@ -95,7 +95,7 @@ fn damage(rng: &mut Rng, text: &mut Vec<u8>) {
 
 fn spoiled_line(rng: &mut Rng, line: &[u8]) -> Vec<u8> {
     let text = String::from_utf8_lossy(line).into_owned();
-    let changed = match rng.below(10) {
+    let changed = match rng.below(11) {
         0 => text.replacen(' ', "  ", 1),
         1 => text.replace('\n', " \n"),
         2 => text.replace('\n', "\r\n"),
@@ -105,6 +105,7 @@ fn spoiled_line(rng: &mut Rng, line: &[u8]) -> Vec<u8> {
         6 => text.trim_end().to_string(),
         7 => text.replace('\n', "\n\n"),
         8 => text.trim_end().rsplit_once(' ').map_or(String::new(), |(front, _)| format!("{front}\n")),
+        9 => text.rsplit_once(' ').map_or(String::new(), |(front, last)| format!("{front} {}", last.to_uppercase())),
         _ => text.replace('\n', " 1\n"),
     };
     changed.into_bytes()
