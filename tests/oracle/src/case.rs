@@ -114,10 +114,10 @@ fn run_history(both: &mut Compared, history: &History, reach: &mut Reach) {
         }
         if net.records[at - 1].state >= 2 && before.state < 2 {
             both.leader(&net.records[at - 1]);
-            hold_to_demand(both, &net);
+            hold_to_demand(both, demand::broken(&net));
         }
     }
-    hold_to_demand(both, &net);
+    hold_to_demand(both, demand::broken(&net).or_else(|| demand::unreadable(&net)));
     if net.waiting() == 0 && (1..=net.setting.n()).all(|b| net.stopped(b)) {
         reach.add("all stopped, nothing waits");
     }
@@ -127,8 +127,7 @@ fn run_history(both: &mut Compared, history: &History, reach: &mut Reach) {
     }
 }
 
-fn hold_to_demand(both: &mut Compared, net: &Net) {
-    let broken = demand::broken(net).or_else(|| demand::unreadable(net));
+fn hold_to_demand(both: &mut Compared, broken: Option<String>) {
     if let Some(what) = broken {
         both.note(format!("demand 3 is broken: {what}"));
     }

@@ -27,4 +27,5 @@ pub mod schedule;
 pub mod shrink;
 pub mod soundness;
 pub mod steps;
+pub mod twelve;
 pub mod writer;

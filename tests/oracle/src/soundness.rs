@@ -84,7 +84,7 @@ pub fn broken_rules(base: &RawBase) -> BTreeSet<Rule> {
         demand(Rule::IdleSentNothing, base.sent != 1);
     }
     let announced: Vec<u32> = used.iter().map(|link| link.announce).filter(|&id| id != 0).collect();
-    demand(Rule::NoAnnounceTwice, all_different(&announced));
+    demand(Rule::NoAnnounceTwice, none_twice(&announced));
     demand(Rule::NoOwnAnnounce, !announced.contains(&base.own));
     for link in used {
         broken.extend(broken_at_link(n, link));
@@ -100,7 +100,7 @@ fn broken_at_link(n: usize, link: &RawLink) -> Vec<Rule> {
         (Rule::ListFits, count + usize::from(link.announce != 0) <= n + 1),
         (Rule::VerifiesAboveZero, !used.contains(&0)),
         (Rule::VerifiesZeroBehind, all_zero(unused)),
-        (Rule::NoVerifyTwice, all_different(&used.iter().copied().filter(|&id| id != 0).collect::<Vec<_>>())),
+        (Rule::NoVerifyTwice, none_twice(used)),
         (Rule::HeldKindKnown, matches!(link.held, 0 | 3 | 4)),
         (Rule::HeldListAscends, !matches!(link.held, 3 | 4) || (!list.contains(&0) && strictly_ascending(list))),
         (Rule::HeldListZeroBehind, all_zero(behind) && (link.held != 0 || all_zero(list))),
@@ -112,6 +112,7 @@ fn all_zero(places: &[u32]) -> bool {
     places.iter().all(|&place| place == 0)
 }
 
-fn all_different(ids: &[u32]) -> bool {
-    ids.iter().collect::<BTreeSet<_>>().len() == ids.len()
+/// No identifier stands twice; zero is none.
+fn none_twice(ids: &[u32]) -> bool {
+    ids.iter().enumerate().all(|(i, id)| *id == 0 || !ids[..i].contains(id))
 }
