@@ -110,7 +110,7 @@ fn full_schedule() -> Vec<u8> {
     let mut text = render(&History::of(setting, events)).into_bytes();
     let end = text[..LONGEST_SCHEDULE.min(text.len()) - 64].iter().rposition(|&byte| byte == b'\n');
     text.truncate(end.map_or(0, |end| end + 1));
-    while (LONGEST_SCHEDULE - text.len()) % 8 != 0 {
+    while !(LONGEST_SCHEDULE - text.len()).is_multiple_of(8) {
         text.extend_from_slice(b"start 16\n");
     }
     text.extend_from_slice(&b"start 1\n".repeat((LONGEST_SCHEDULE - text.len()) / 8));

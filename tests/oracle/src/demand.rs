@@ -1,9 +1,9 @@
 //! Demand 3 itself, held against a net after a history.
 
 use crate::engine::{Engine, Leader};
-use crate::model::{leader_of, Model};
 use crate::faults::Fault;
 use crate::message::Message;
+use crate::model::{leader_of, Model};
 use crate::net::Net;
 use crate::reader::read;
 

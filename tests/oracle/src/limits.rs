@@ -39,3 +39,27 @@ pub fn link_to(b: usize, other: usize) -> usize {
         other - 1
     }
 }
+
+#[cfg(test)]
+mod tests {
+    use super::*;
+
+    #[test]
+    fn links_and_bases_undo_each_other() {
+        for n in FEWEST_BASES..=MOST_BASES {
+            for b in 1..=n {
+                let others: Vec<usize> = (1..n).map(|link| base_at(b, link)).collect();
+                assert_eq!(others, (1..=n).filter(|&other| other != b).collect::<Vec<_>>());
+                assert!((1..n).all(|link| link_to(b, base_at(b, link)) == link));
+            }
+        }
+    }
+
+    #[test]
+    fn figures_of_document_01() {
+        assert_eq!([2, 3, 4, 5, 6, 12, 15, 16].map(most_faulty), [0, 0, 1, 1, 2, 5, 6, 7]);
+        let line = |b: usize| format!("base {b} secondary{} leader 4294967295\n", " 4294967295".repeat(16)).len();
+        let waiting = format!("waiting {}\n", 16 * 15 * 19).len();
+        assert_eq!((1..=16).map(line).sum::<usize>() + waiting, REPORT_ROOM);
+    }
+}

@@ -25,7 +25,7 @@ pub fn sweep(rng: &mut Rng) -> Vec<Case> {
 pub fn at(seed: u64, place: u64) -> Case {
     let mut rng = Rng::new(seed ^ place.wrapping_mul(0xd134_2543_de82_ef95));
     let rng = &mut rng;
-    rng.next();
+    rng.word();
     match place % 64 {
         0 => Case::History(histories::history(rng)),
         1..=8 => schedules::schedule(rng),

@@ -40,7 +40,8 @@ pub fn read(n: usize, burst: &[u8], fault: Fault) -> Result<Frame, Number> {
     if count != kind.count(n) {
         return Err(9);
     }
-    if !distance_holds && !(fault == Fault::DistanceNotRead && 4 * count + 4 <= burst.len()) {
+    let let_pass = fault == Fault::DistanceNotRead && 4 * count + 4 <= burst.len();
+    if !distance_holds && !let_pass {
         return Err(10);
     }
     let start = if fault == Fault::BodyAtTheFront { 0 } else { burst.len() - 4 - 4 * count };

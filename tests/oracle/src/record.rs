@@ -40,9 +40,7 @@ impl RawBase {
 
 /// The first field in which two records differ, with both values.
 pub fn difference(left: &RawBase, right: &RawBase) -> Option<String> {
-    let fields = |r: &RawBase| {
-        [("n", r.n as u32), ("t", r.t as u32), ("state", r.state as u32), ("sent", r.sent as u32), ("own", r.own)]
-    };
+    let fields = |r: &RawBase| [("n", r.n as u32), ("t", r.t as u32), ("state", r.state as u32), ("sent", r.sent as u32), ("own", r.own)];
     for ((name, a), (_, b)) in fields(left).into_iter().zip(fields(right)) {
         if a != b {
             return Some(format!("{name} {a} / {b}"));

@@ -56,7 +56,7 @@ fn decimal(word: &str, fault: Fault) -> Option<u32> {
 fn hex_bytes(word: &str, fault: Fault) -> Option<Vec<u8>> {
     let most = if fault == Fault::ForgeOf133 { 133 } else { 132 };
     let lower = |byte: u8| matches!(byte, b'0'..=b'9' | b'a'..=b'f') || (fault == Fault::UpperCaseHex && byte.is_ascii_hexdigit());
-    if word.len() % 2 != 0 || word.len() / 2 > most || !word.bytes().all(lower) {
+    if !word.len().is_multiple_of(2) || word.len() / 2 > most || !word.bytes().all(lower) {
         return None;
     }
     (0..word.len()).step_by(2).map(|i| u8::from_str_radix(&word[i..i + 2], 16).ok()).collect()

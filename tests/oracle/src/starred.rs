@@ -29,7 +29,8 @@ pub enum Figure {
     Held { link: usize, count: usize },
 }
 
-pub const WORKED_EXAMPLE: &str = "net 2 0\nid 1 500\nid 2 300\nstart 1\nstart 2\ncarry 1 2 1\ncarry 1 2 2\ncarry 2 1 1\ncarry 2 1 2\ncarry 2 1 3\ncarry 1 2 3\n";
+pub const WORKED_EXAMPLE: &str =
+    "net 2 0\nid 1 500\nid 2 300\nstart 1\nstart 2\ncarry 1 2 1\ncarry 1 2 2\ncarry 2 1 1\ncarry 2 1 2\ncarry 2 1 3\ncarry 1 2 3\n";
 pub const WORKED_REPORT: &str = "base 1 prime 300 500 leader 500\nbase 2 prime 300 500 leader 500\nwaiting 2\n";
 
 const RUNS_ON: Answer = Answer::Accepted([0; 3]);
@@ -107,7 +108,15 @@ fn vote_cases() -> Vec<Starred> {
             3,
             3,
         ),
-        vote_case("a link that gave both vector messages counts once", 6, 2, vec![verify(1, 6), correct(1, 6), correct(2, 6)], Answer::Accepted([28, 0, 0]), 1, 2),
+        vote_case(
+            "a link that gave both vector messages counts once",
+            6,
+            2,
+            vec![verify(1, 6), correct(1, 6), correct(2, 6)],
+            Answer::Accepted([28, 0, 0]),
+            1,
+            2,
+        ),
         vote_case("the same, its own last: counts once", 6, 2, vec![correct(2, 6), verify(1, 6), correct(1, 6)], Answer::Accepted([28, 0, 0]), 1, 2),
         vote_case("Correct-Final V over Verify-Final U: held", 4, 1, vec![(1, VerifyFinal(u(4))), correct(1, 4)], RUNS_ON, 1, 1),
         Starred {
@@ -126,7 +135,10 @@ fn other_cases() -> Vec<Starred> {
     let started = |answer, arrivals| Starred { name: "", n: 4, t: 1, arrivals, answer, state: 1, figures: Vec::new() };
     vec![
         Starred { name: "own Announce arriving: discarded", ..started(DISCARDED, vec![(1, Verify(7)), (1, Announce(10))]) },
-        Starred { name: "own Announce at an idle base: discarded, with the frames of its start", ..started(Answer::Discarded([8, 8, 0]), vec![(1, Announce(10))]) },
+        Starred {
+            name: "own Announce at an idle base: discarded, with the frames of its start",
+            ..started(Answer::Discarded([8, 8, 0]), vec![(1, Announce(10))])
+        },
         Starred { name: "a second Verify of one identifier from one link: discarded", ..started(DISCARDED, vec![(1, Verify(7)), (1, Verify(7))]) },
         list_case("list at n: accepted", 4, RUNS_ON, 5),
         list_case("list at n + 1: discarded", 5, DISCARDED, 5),

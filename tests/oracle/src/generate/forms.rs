@@ -1,7 +1,7 @@
 //! One small schedule with each line written wrong in every way that document 01 rules out, and the refusal that it earns.
 
 use crate::case::Case;
-use crate::limits::REPORT_ROOM;
+use crate::limits::{LONGEST_SCHEDULE, REPORT_ROOM};
 
 const LINES: [&str; 8] = ["net 4 1", "id 1 40", "id 2 10", "id 3 30", "id 4 20", "faulty 2 3", "start 1", "carry 1 2 1"];
 
@@ -80,6 +80,25 @@ fn ends() -> Vec<Case> {
     cases.push(case(format!("{all}\nforge 1 2 {}\n", "00".repeat(133)), refused(13, 9)));
     cases.push(case(all.replace('\n', "\r\n") + "\r\n", refused(13, 1)));
     cases.push(case(format!("{all}\n\nnonsense"), refused(13, 9)));
+    cases.extend(lengths());
+    cases
+}
+
+/// Two bases and starts of the first, up to lengths next to the limit; right, and with a wrong line.
+fn lengths() -> Vec<Case> {
+    let mut cases = Vec::new();
+    for length in LONGEST_SCHEDULE - 2..=LONGEST_SCHEDULE + 3 {
+        let digits = (length - 20) % 8 + 8;
+        let (first, second) = ("1".repeat(digits / 2), "2".repeat(digits - digits / 2));
+        let header = format!("net 2 0\nid 1 {first}\nid 2 {second}\n");
+        let text = format!("{header}{}", "start 1\n".repeat((length - header.len()) / 8));
+        assert_eq!(text.len(), length);
+        let unless_long = |report: String| if length > LONGEST_SCHEDULE { refused(13, 1) } else { report };
+        cases.push(case(text.clone(), unless_long("base 1 running\nbase 2 idle\nwaiting 2\n".to_string())));
+        cases.push(case(text.replacen("net 2 0", "net 1 0", 1), unless_long(refused(1, 1))));
+        cases.push(case(text.replacen("id 1", "id 2", 1), unless_long(refused(13, 2))));
+        cases.push(case(text.replacen("start 1", "start 3", 1), unless_long(refused(13, 4))));
+    }
     cases
 }
 

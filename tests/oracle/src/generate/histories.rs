@@ -78,6 +78,9 @@ impl<'r> Author<'r> {
         if self.rng.chance(1, 2) {
             (1..=self.net.setting.n()).for_each(|at| self.emit(Event::Start { at }, OUTPUT_ROOM));
         }
+        if self.rng.chance(1, 2) {
+            self.conspire();
+        }
         while self.events.len() < budget {
             if self.rng.chance(noise, 1000) {
                 self.make_noise();
@@ -168,6 +171,20 @@ impl<'r> Author<'r> {
         let (from, to) = if towards_target || self.rng.chance(1, 2) { (b, a) } else { (a, b) };
         if let Some(event) = self.plot.act(self.rng, &self.net, manner, from, to) {
             self.emit(event, OUTPUT_ROOM);
+        }
+    }
+
+    /// All faulty links that lie do so at once, before much is carried.
+    fn conspire(&mut self) {
+        let links: Vec<((usize, usize), Manner)> = self.manners.iter().map(|(&link, &manner)| (link, manner)).collect();
+        for _ in 0..self.rng.within(1, 6) {
+            for &((a, b), manner) in &links {
+                for (from, to) in [(a, b), (b, a)] {
+                    if let Some(event) = self.plot.act(self.rng, &self.net, manner, from, to) {
+                        self.emit(event, OUTPUT_ROOM);
+                    }
+                }
+            }
         }
     }
 

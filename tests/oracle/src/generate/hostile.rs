@@ -45,7 +45,7 @@ impl Plot {
         let n = truth.len();
         let stranger = loop {
             let near = truth[rng.below(n)].wrapping_add(rng.within(1, 3) as u32);
-            let id = if rng.chance(1, 2) { near } else { rng.next() as u32 };
+            let id = if rng.chance(1, 2) { near } else { rng.word() as u32 };
             if id != 0 && !truth.contains(&id) {
                 break id;
             }

@@ -40,8 +40,17 @@ pub fn arrive(rng: &mut Rng, numbers: &[Number]) -> Case {
     if numbers.contains(&5) {
         link = *rng.pick(&[0, n, n + 1, 16, 255, 256 + link, usize::MAX]);
     }
-    let out = if numbers.contains(&6) { rng.bytes(rng.clone().below(OUTPUT_ROOM)) } else { output(rng) };
+    let out = output_for(rng, numbers);
     Case::Arrive { record, link, burst, out, expect: numbers.iter().min().copied() }
+}
+
+/// An output that is too short, often by one byte, if the set has number 6.
+fn output_for(rng: &mut Rng, numbers: &[Number]) -> Vec<u8> {
+    if !numbers.contains(&6) {
+        return output(rng);
+    }
+    let length = if rng.chance(1, 3) { OUTPUT_ROOM - 1 } else { rng.below(OUTPUT_ROOM) };
+    rng.bytes(length)
 }
 
 /// A start, a leader call or a new record that earns the numbers that it takes the data for.
@@ -56,7 +65,7 @@ pub fn others(rng: &mut Rng, numbers: &[Number]) -> Case {
     }
     spoil_head(rng, &numbers, &mut record);
     let expect = Some(numbers.iter().min().copied().unwrap_or(0));
-    let out = if numbers.contains(&6) { rng.bytes(rng.clone().below(OUTPUT_ROOM)) } else { output(rng) };
+    let out = output_for(rng, &numbers);
     match kind {
         0 => Case::Start { record, out, expect },
         1 => Case::Leader { record, expect },

@@ -3,14 +3,11 @@
 use crate::case::Case;
 use crate::generate::bursts;
 use crate::generate::histories;
-use crate::limits::{LONGEST_SCHEDULE, REPORT_ROOM};
+use crate::limits::REPORT_ROOM;
 use crate::rng::Rng;
 use crate::schedule::render;
 
 pub fn schedule(rng: &mut Rng) -> Case {
-    if rng.chance(1, 300) {
-        return of_length(rng);
-    }
     let mut text = match rng.below(8) {
         0 => render(&histories::history(rng)).into_bytes(),
         _ => line_by_line(rng),
@@ -126,7 +123,7 @@ fn spoiled_number(rng: &mut Rng, line: &[u8]) -> Vec<u8> {
         5 => "0".to_string(),
         6 => format!("{}", value + 1),
         7 => format!("{}", value.saturating_sub(1)),
-        _ => format!("{}", rng.next()),
+        _ => format!("{}", rng.word()),
     };
     (words.join(" ") + "\n").into_bytes()
 }
@@ -152,24 +149,4 @@ fn odd_line(rng: &mut Rng) -> Vec<u8> {
         1 => more[rng.below(more.len())].into(),
         _ => long.into_bytes(),
     }
-}
-
-/// A schedule of a length next to the limit: two bases, and starts of the first to its end. Its second line may be wrong.
-fn of_length(rng: &mut Rng) -> Case {
-    let wanted = LONGEST_SCHEDULE + rng.within(0, 4) - 2;
-    let wrong = rng.chance(1, 3);
-    let digits = (wanted - 20) % 8 + 8;
-    let (first, second) = (10usize.pow(digits as u32 / 2 - 1), 10usize.pow((digits - digits / 2) as u32 - 1) + 1);
-    let mut text = format!("net 2 0\nid 1 {first}\nid 2 {second}\n");
-    if wrong {
-        text = text.replacen("id 1", "id 3", 1);
-    }
-    text += &"start 1\n".repeat((wanted - text.len()) / 8);
-    assert_eq!(text.len(), wanted);
-    let expect = match (wanted > LONGEST_SCHEDULE, wrong) {
-        (true, _) => "refused 13 line 1\n",
-        (false, true) => "refused 13 line 2\n",
-        (false, false) => "base 1 running\nbase 2 idle\nwaiting 2\n",
-    };
-    Case::Replay { schedule: text.into_bytes(), out: rng.bytes(REPORT_ROOM), expect: Some(expect.to_string()) }
 }

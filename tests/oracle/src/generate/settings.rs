@@ -32,7 +32,7 @@ pub fn identifiers(rng: &mut Rng, count: usize) -> Vec<u32> {
             0 => rng.within(1, 2 * count) as u32,
             1 => u32::MAX - rng.below(2 * count) as u32,
             2 => [1, 0x100, 0x1_0000, 0x100_0000][rng.below(4)] * rng.within(1, 255) as u32,
-            _ => (rng.next() as u32).max(1),
+            _ => (rng.word() as u32).max(1),
         };
         set.insert(id);
     }

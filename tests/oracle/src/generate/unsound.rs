@@ -89,11 +89,11 @@ fn spoil_link(rng: &mut Rng, rule: Rule, link: &mut crate::record::RawLink, n: u
             link.verify_count = wanted as u8;
         }
         Rule::VerifiesAboveZero if count > 0 => link.verifies[rng.below(count)] = 0,
-        Rule::VerifiesZeroBehind if count < LIST_ROOM => link.verifies[rng.within(count, LIST_ROOM - 1)] = rng.next() as u32,
+        Rule::VerifiesZeroBehind if count < LIST_ROOM => link.verifies[rng.within(count, LIST_ROOM - 1)] = rng.word() as u32,
         Rule::NoVerifyTwice if count > 1 => link.verifies[rng.below(count)] = link.verifies[rng.below(count)],
         Rule::HeldKindKnown => link.held = *rng.pick(&[1, 2, 5, 6, 67, 131, 255]),
         Rule::HeldListAscends if link.held != 0 => spoil_list(rng, &mut link.list[..n]),
-        Rule::HeldListZeroBehind => link.list[rng.below(MOST_BASES)] = rng.next() as u32,
+        Rule::HeldListZeroBehind => link.list[rng.below(MOST_BASES)] = rng.word() as u32,
         _ => {}
     }
 }
@@ -110,7 +110,7 @@ fn spoil_list(rng: &mut Rng, list: &mut [u32]) {
 
 fn hold_something(rng: &mut Rng, link: &mut crate::record::RawLink, n: usize) {
     match rng.below(4) {
-        0 => link.announce = rng.next() as u32,
+        0 => link.announce = rng.word() as u32,
         1 => {
             link.verifies[0] = rng.within(1, 99) as u32;
             link.verify_count = 1;
