@@ -116,9 +116,10 @@ impl Engine for Compared<'_> {
 
     fn write(&mut self, n: usize, kind: u8, ids: &[u32], out: &mut [u8]) -> Result<usize, Number> {
         self.calls += 1;
-        let mut their_out = Fenced::new(out);
-        let their_length = self.other.write(n, kind, ids, their_out.bytes_mut());
+        let (mut their_out, lent) = (Fenced::new(out), ids.to_vec());
+        let their_length = self.other.write(n, kind, &lent, their_out.bytes_mut());
         let length = self.truth.write(n, kind, ids, out);
+        self.same("write", "list", ids, &lent);
         self.same("write", "answer", length, their_length);
         self.same_output("write", out, &their_out);
         length

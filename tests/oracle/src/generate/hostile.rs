@@ -37,7 +37,8 @@ pub enum Manner {
     Noisy,
 }
 
-pub const MANNERS: [Manner; 6] = [Manner::Silent, Manner::Honest, Manner::Impostor, Manner::EarlyTrue, Manner::Repeater, Manner::Noisy];
+/// What is drawn from: impostors come up twice as often.
+pub const MANNERS: [Manner; 7] = [Manner::Silent, Manner::Honest, Manner::Impostor, Manner::Impostor, Manner::EarlyTrue, Manner::Repeater, Manner::Noisy];
 
 impl Plot {
     pub fn new(rng: &mut Rng, net: &Net) -> Plot {
