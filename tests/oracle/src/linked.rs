@@ -61,13 +61,16 @@ pub mod c {
 
 pub struct Linked;
 
+/// Stands for an answer that the interface does not have, so that it shows as a difference.
+const NO_ANSWER: Number = Number::MAX;
+
 fn answer(answer: c::Answer) -> Answer {
     let lengths = [answer.first, answer.second, answer.third];
     match (answer.outcome, answer.refusal, lengths) {
         (0, 0, lengths) => Answer::Accepted(lengths),
         (1, 0, lengths) => Answer::Discarded(lengths),
         (2, number @ 1..=12, [0, 0, 0]) => Answer::Refused(number as Number),
-        _ => panic!("no answer of the interface: {answer:?}"),
+        _ => Answer::Refused(NO_ANSWER),
     }
 }
 
@@ -78,7 +81,7 @@ impl Engine for Linked {
     }
 
     fn idle(&mut self, n: usize, t: usize, own: u32, record: &mut RawBase) -> Number {
-        unsafe { c::roster_idle(n, t, own, record) as Number }
+        Number::try_from(unsafe { c::roster_idle(n, t, own, record) }).unwrap_or(NO_ANSWER)
     }
 
     fn start(&mut self, record: &mut RawBase, out: &mut [u8]) -> Answer {
@@ -95,7 +98,7 @@ impl Engine for Linked {
             (0, 0, leader) => Leader::Is(leader),
             (1, 0, 0) => Leader::NotStopped,
             (2, number @ 1..=4, 0) => Leader::Refused(number as Number),
-            _ => panic!("no answer of the interface: {answer:?}"),
+            _ => Leader::Refused(NO_ANSWER),
         }
     }
 
@@ -104,7 +107,7 @@ impl Engine for Linked {
         match (reading.refusal, reading.kind, reading.count, reading.start) {
             (0, kind @ 1..=4, count, start) => Reading::Frame { kind: kind as u8, count, start },
             (number @ 1..=12, 0, 0, 0) => Reading::Refused(number as Number),
-            _ => panic!("no answer of the interface: {reading:?}"),
+            _ => Reading::Refused(NO_ANSWER),
         }
     }
 
@@ -113,7 +116,7 @@ impl Engine for Linked {
         match (written.refusal, written.length) {
             (0, length) => Ok(length),
             (number @ 1..=12, 0) => Err(number as Number),
-            _ => panic!("no answer of the interface: {written:?}"),
+            _ => Err(NO_ANSWER),
         }
     }
 

@@ -177,6 +177,11 @@ impl<'r> Author<'r> {
     /// All faulty links that lie do so at once, before much is carried.
     fn conspire(&mut self) {
         let links: Vec<((usize, usize), Manner)> = self.manners.iter().map(|(&link, &manner)| (link, manner)).collect();
+        let vote = self.rng.chance(1, 2);
+        for &((a, b), _) in links.iter().filter(|&&(_, manner)| vote && manner == Manner::Impostor) {
+            self.emit(self.plot.false_vote(a, b), OUTPUT_ROOM);
+            self.emit(self.plot.false_vote(b, a), OUTPUT_ROOM);
+        }
         for _ in 0..self.rng.within(1, 6) {
             for &((a, b), manner) in &links {
                 for (from, to) in [(a, b), (b, a)] {

@@ -63,6 +63,11 @@ impl Plot {
         self.target
     }
 
+    /// A Correct-Final of the false list.
+    pub fn false_vote(&self, from: usize, to: usize) -> Event {
+        Event::Forge { from, to, bytes: Message::CorrectFinal(self.false_list.clone()).frame() }
+    }
+
     /// One act of a faulty link, from base `from` to base `to`.
     pub fn act(&self, rng: &mut Rng, net: &Net, manner: Manner, from: usize, to: usize) -> Option<Event> {
         let forge = |message: Message| Some(Event::Forge { from, to, bytes: message.frame() });
