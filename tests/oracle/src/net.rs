@@ -28,6 +28,14 @@ impl Event {
             Event::Carry { to, .. } | Event::Forge { to, .. } => to,
         }
     }
+
+    /// The base at the other end of the link that the event's message comes on.
+    pub fn sender(&self) -> Option<usize> {
+        match *self {
+            Event::Start { .. } => None,
+            Event::Carry { from, .. } | Event::Forge { from, .. } => Some(from),
+        }
+    }
 }
 
 /// What a net begins with.

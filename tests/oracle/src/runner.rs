@@ -87,10 +87,7 @@ pub fn run(engine: &mut dyn Engine, seconds: u64, seed: u64) -> bool {
         }
         Some((case, what)) => {
             println!("DIFFERENCE after {} cases, of {}: {what}", tried.total(), case.kind());
-            tell(&shrink(&case, engine), engine, seed);
-            if !matches!(case, Case::History(_) | Case::Replay { .. }) {
-                tell_as_history(engine, seed);
-            }
+            tell_shortened(&case, engine, seed);
             false
         }
     }
@@ -116,8 +113,12 @@ fn tell(case: &Case, engine: &mut dyn Engine, seed: u64) {
     }
 }
 
-/// A difference in a lone call is looked for in histories too, since a schedule can be replayed.
-fn tell_as_history(engine: &mut dyn Engine, seed: u64) {
+/// The case, shortened. A difference in a lone call is looked for in histories too, since a schedule can be replayed.
+fn tell_shortened(case: &Case, engine: &mut dyn Engine, seed: u64) {
+    tell(&shrink(case, engine), engine, seed);
+    if matches!(case, Case::History(_) | Case::Replay { .. }) {
+        return;
+    }
     let cases = row(seed, 0).filter(|case| matches!(case, Case::History(_)));
     match search(engine, cases, Duration::from_secs(10), &mut Tried::default(), false) {
         Some((case, _)) => tell(&shrink(&case, engine), engine, seed),
@@ -142,8 +143,7 @@ pub fn faults(seed: u64, only: Option<&str>) -> bool {
                 let what: String = what.chars().take(90).collect();
                 println!("caught {:<34} {:>6} cases {:>5} ms  {}: {what}", fault.name(), tried.total(), at.elapsed().as_millis(), case.kind());
                 if only.is_some() {
-                    tell(&shrink(&case, &mut engine), &mut engine, seed);
-                    tell_as_history(&mut engine, seed);
+                    tell_shortened(&case, &mut engine, seed);
                 }
             }
             None => {

@@ -2,7 +2,7 @@
 
 use crate::case::Case;
 use crate::engine::Engine;
-use crate::net::History;
+use crate::net::{Event, History};
 use crate::reach::Reach;
 use crate::record::{RawBase, RawLink};
 use std::time::{Duration, Instant};
@@ -36,7 +36,8 @@ pub fn shrink(case: &Case, engine: &mut dyn Engine) -> Case {
     match case {
         Case::History(history) => {
             let make = |events: &[_]| Case::History(History { setting: history.setting.clone(), events: events.to_vec() });
-            make(&shortest(history.events.clone(), until, |events| differs(&make(events))))
+            let events = without_whole_links(history, |events| differs(&make(events)));
+            make(&shortest(events, until, |events| differs(&make(events))))
         }
         Case::Replay { schedule, out, .. } => {
             let make = |parts: &[Vec<u8>]| Case::Replay { schedule: parts.concat(), out: out.clone(), expect: None };
@@ -57,6 +58,35 @@ pub fn shrink(case: &Case, engine: &mut dyn Engine) -> Case {
         }
         other => other.clone(),
     }
+}
+
+/// The events up to the first difference, without all that is carried to some base, or over some link in one direction, where that can go.
+fn without_whole_links(history: &History, mut differs: impl FnMut(&[(Event, usize)]) -> bool) -> Vec<(Event, usize)> {
+    let n = history.setting.n();
+    let mut events = history.events.clone();
+    let mut size = events.len().div_ceil(2);
+    while size > 0 {
+        while events.len() > size && differs(&events[..events.len() - size]) {
+            events.truncate(events.len() - size);
+        }
+        size /= 2;
+    }
+    let mut leave_out = |gone: &dyn Fn(&Event) -> bool| {
+        let fewer: Vec<_> = events.iter().filter(|(event, _)| !gone(event)).cloned().collect();
+        if fewer.len() < events.len() && differs(&fewer) {
+            events = fewer;
+        }
+    };
+    for to in 1..=n {
+        leave_out(&|event| event.receiver() == to);
+    }
+    for from in 1..=n {
+        leave_out(&|event| event.sender() == Some(from));
+        for to in 1..=n {
+            leave_out(&|event| event.receiver() == to && event.sender() == Some(from));
+        }
+    }
+    events
 }
 
 /// The record with as much of it blank as can be.
