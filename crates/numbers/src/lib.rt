@@ -3,7 +3,6 @@ use limits::MOST_BASES;
 use protocol::Leader;
 use protocol::Outcome;
 use reader::Reading;
-use reader::body;
 use reader::identifiers;
 use reader::read;
 use writer::Written;
@@ -123,21 +122,20 @@ pub fn written_numbers(written: Written) -> Put
 pub fn read_numbers(n: usize, burst: &[u8]) -> Taken
     ensures { λ r. ⌜ r ≡ readNumbers (readingOf n (now (burst .entry))) (idArray (stretch n (now (burst .entry)))) ⌝ }
 {
-    let ids = identifiers(body(n, burst));
     match read(n, burst) {
         Reading::Message { kind, count, start } => Taken {
             refusal: 0,
             kind,
             count,
             start,
-            ids,
+            ids: identifiers(&burst[start..start + 4 * count]),
         },
         Reading::Refused(number) => Taken {
             refusal: number,
             kind: 0,
             count: 0,
             start: 0,
-            ids,
+            ids: [0u32; MOST_BASES],
         },
     }
 }
