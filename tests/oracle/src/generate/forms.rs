@@ -32,8 +32,8 @@ const WRONG: &[(usize, &[&str], u8)] = &[
     (8, &["faulty 1 4", "faulty 2 3", "carry 1 1 1", "carry 1 5 1", "carry 5 1 1", "carry 0 1 1", "carry 1 0 1", "carry 1 2 0", "carry 1 2 01", "carry 1 2",
         "carry 1 2 1 ", "carry 1 2 1 1", "carry 1 2 4294967296", "carry 1 2 4294967297", "carry 1  2 1", "carry 1 2 a", "id 1 40", "net 4 1", ""], 13),
     (8, &["carry 1 2 3", "carry 3 1 1", "carry 2 3 1", "carry 1 2 4294967295"], 16),
-    (8, &["forge 1 2", "forge 1 2 0", "forge 1 2 AB", "forge 2 3 aB", "forge 2 3 0g", "forge 2 3", "forge 2 3  ", "forge 2 3 00 ", "forge 2 3 00 00", "forge 2 2 00",
-        "forge 2 5 00", "forge 0 2 00", "forge 1 1 ", "forge 2 3 0", "forge 2 3 000", "forge 02 3 00", "forge  2 3 00", "forge 2 3 \u{e9}"], 13),
+    (8, &["forge 1 2", "forge 1 2 0", "forge 1 2 AB", "forge 2 3 aB", "forge 2 3 0g", "forge 2 3", "forge 2 3  ", "forge 2 3 00 ", "forge 2 3 00 00",
+        "forge 2 2 00", "forge 2 5 00", "forge 0 2 00", "forge 1 1 ", "forge 2 3 0", "forge 2 3 000", "forge 02 3 00", "forge  2 3 00", "forge 2 3 \u{e9}"], 13),
     (8, &["forge 1 2 ", "forge 2 1 00", "forge 4 3 0000000a01010008"], 18),
 ];
 
