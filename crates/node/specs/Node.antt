@@ -16,6 +16,9 @@ use Rattle.node.specs.declared.Frame.{Frame}
 use Rattle.node.specs.declared.Node.{Node}
 use Rattle.node.specs.declared.Told.{Told}
 pub mod Within
+pub mod Counts
+pub mod Memory
+pub mod Log
 
 -- "A base broadcasts at most n + 3 in its life."
 abbrev pub mostBroadcasts : ℕ
@@ -36,6 +39,17 @@ logOf v = map written (take (v .count) (v .frames))
 
 unfoldable pub frameOf : List ℕ → Frame
 frameOf bytes = record { len = length bytes; bytes = padTo longestFrame bytes }
+
+-- a base's k-th broadcast, and an empty frame for one that was not broadcast
+abbrev pub emptyFrame : Frame
+emptyFrame = record { len = 0; bytes = replicate longestFrame 0 }
+
+-- the frame that is read past the end of an array
+abbrev pub noFrame : Frame
+noFrame = record { len = 0; bytes = [] }
+
+unfoldable pub frameAt : Node → ℕ → Frame
+frameAt v k = choose (ltb (k - 1) (length (logOf v))) (getD (v .frames) (k - 1) noFrame) emptyFrame
 
 -- one broadcast more, while there is room: in a history there always is
 unfoldable pub joined : Node → List ℕ → Node

@@ -1,8 +1,10 @@
 // Calls on a base's record: a start, and an arrival on a link.
+use crate::Frame;
 use crate::Node;
 use crate::Told;
 use crate::keep::keep_three;
 use engine::arrival::arrive;
+use limits::LONGEST_FRAME;
 use limits::OUTPUT_ROOM;
 use protocol::Base;
 use protocol::Outcome;
@@ -12,7 +14,7 @@ ghost use lib.ListN.{length};
 ghost use Rattle.limits.specs.Limits.{outputRoom};
 ghost use Rattle.protocol.specs.Steps.{arrival};
 ghost use Rattle.protocol.specs.Steps as Steps;
-ghost use Rattle.node.specs.Node.{told};
+ghost use Rattle.node.specs.Node.{written, told};
 ghost use Rattle.node.specs.Written.{Fitting, settledOf};
 
 fn settle(node: Node, base: Base, outcome: Outcome, out: &[u8]) -> Told
@@ -62,4 +64,16 @@ pub fn hear(node: Node, link: usize, burst: &[u8]) -> Told
     let outcome = step.outcome;
     let next = step.base;
     settle(node, next, outcome, &out)
+}
+
+// The same of a frame as it was written.
+pub fn hear_frame(node: Node, link: usize, frame: Frame) -> Told
+    ensures { λ r. ⌜ r ≡ told node (arrival (node .base) link (written frame) outputRoom) ⌝ }
+{
+    let bytes = frame.bytes;
+    let len = frame.len;
+    if LONGEST_FRAME < len {
+        return hear(node, link, &bytes);
+    }
+    hear(node, link, &bytes[..len])
 }

@@ -2,6 +2,7 @@
 // to it. specs/Node.antt says what it stands for.
 pub mod call;
 mod keep;
+pub mod log;
 pub mod marks;
 
 use limits::LONGEST_FRAME;

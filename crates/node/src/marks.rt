@@ -3,6 +3,9 @@ use crate::MOST_BROADCASTS;
 use crate::Node;
 use limits::MOST_BASES;
 ghost use mathlib.Core.Path.{_≡_};
+ghost use Prim.Native.Nat.{suc};
+ghost use mathlib.Core.Bool.{not};
+ghost use Rattle.counting.specs.Sums.{bit, sum};
 ghost use Rattle.node.specs.Node.{heardBy, marked};
 
 // Whether a's k-th broadcast was carried to this base.
@@ -45,4 +48,19 @@ pub fn mark(node: Node, a: u8, k: usize) -> Node
     let mut after = node;
     after.heard[(from - 1) * MOST_BROADCASTS + (k - 1)] = 1;
     after
+}
+
+// How many of a's first count broadcasts were not carried to this base.
+pub fn unheard(node: Node, a: u8, count: usize) -> usize
+    ensures { λ r. ⌜ r ≡ sum count (λ i. bit (not (heardBy node a (suc i)))) ⌝ }
+{
+    let mut total: usize = 0;
+    let mut i: usize = 0;
+    while i < count {
+        if !heard(node, a, i + 1) {
+            total += 1;
+        }
+        i += 1;
+    }
+    total
 }
