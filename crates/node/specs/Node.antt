@@ -24,6 +24,10 @@ pub mod Log
 abbrev pub mostBroadcasts : ℕ
 mostBroadcasts = mostBases + 3
 
+-- one mark for each broadcast of each base
+abbrev pub marks : ℕ
+marks = mostBases * mostBroadcasts
+
 -- x is one of 1 to most
 unfoldable pub within : ℕ → ℕ → Bool
 within x most = and (leb 1 x) (leb x most)
