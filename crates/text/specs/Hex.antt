@@ -10,6 +10,7 @@ use Rattle.lists.specs.Lists.{padTo}
 use Rattle.text.specs.declared.hex.Hex.{Hex}
 use Rattle.text.specs.declared.hex.Hex.the-variants.{Bytes, Bad}
 pub mod Laws
+pub mod Range
 
 -- the bytes `0` to `9` and `a` to `f`
 unfoldable pub isHex : ℕ → Bool

@@ -8,6 +8,7 @@ use Rattle.lists.specs.Choice.{choose, and}
 use Rattle.text.specs.declared.number.Number.{Number}
 use Rattle.text.specs.declared.number.Number.the-variants.{Value, Bad}
 pub mod Laws
+pub mod Range
 
 abbrev pub mostNumber : ℕ
 mostNumber = 4294967295
