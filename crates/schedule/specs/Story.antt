@@ -15,6 +15,8 @@ use Rattle.protocol.specs.Sound.{idleBase}
 use Rattle.protocol.specs.Net.{Net, Pair, good, Event, starts, carry, forge, eventRefusal, happens, replaced}
 use Rattle.protocol.specs.Agreement.Premise.{idleNet}
 use Rattle.schedule.specs.Header.{sizeRefusal, idRefusal, faultyRefusal}
+pub mod Laws
+pub mod Begins
 
 -- how far a schedule has been read
 pub record Story : Type 0 where
