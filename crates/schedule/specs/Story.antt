@@ -17,6 +17,8 @@ use Rattle.protocol.specs.Agreement.Premise.{idleNet}
 use Rattle.schedule.specs.Header.{sizeRefusal, idRefusal, faultyRefusal}
 pub mod Laws
 pub mod Begins
+pub mod Tells
+pub mod Whole
 
 -- how far a schedule has been read
 pub record Story : Type 0 where
