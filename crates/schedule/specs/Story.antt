@@ -14,7 +14,8 @@ use Rattle.lines.specs.Lines.{afterNumber, afterTwo, netLine, idLine, faultyLin
 use Rattle.protocol.specs.Sound.{idleBase}
 use Rattle.protocol.specs.Net.{Net, Pair, good, Event, starts, carry, forge, eventRefusal, happens, replaced}
 use Rattle.protocol.specs.Agreement.Premise.{idleNet}
-use Rattle.schedule.specs.Header.{sizeRefusal, idRefusal, faultyRefusal}
+use Rattle.net.specs.Header.{idRefusal, faultyRefusal}
+use Rattle.schedule.specs.Header.{sizeRefusal}
 pub mod Laws
 pub mod Begins
 pub mod Tells

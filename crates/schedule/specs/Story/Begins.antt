@@ -23,7 +23,8 @@ use Rattle.protocol.specs.Sound.{idleBase}
 use Rattle.protocol.specs.Net.{Net, Pair, good, replaced}
 use Rattle.protocol.specs.Agreement.{BaseOf, Setting, Fresh}
 use Rattle.protocol.specs.Agreement.Premise.{idleNet, idle-fresh}
-use Rattle.schedule.specs.Header.{sizeRefusal, takenBelow, idRefusal, faultyRefusal}
+use Rattle.net.specs.Header.{owned, idRefusal, faultyRefusal}
+use Rattle.schedule.specs.Header.{sizeRefusal}
 use Rattle.schedule.specs.Story.{Story, unread, refuse, onward, withSize, withId, withFaulty, judged, netStep, idStep, idSteps, faultyStep, repeat, header}
 use Rattle.schedule.specs.Story.Laws.{Unrefused, refuse-owes, judged-owes, unless-owes, repeat-ind}
 
@@ -67,14 +68,14 @@ net-begins s =
 
 -- ---- `id b v`
 -- none of the bases 1 to k has the identifier v
-free : (k : ℕ) (W : Net) (v : ℕ) → takenBelow k W v ≡ false → (b : ℕ) → BaseOf k b → W .base b .own ≡ v → ⊥
-unfolding takenBelow
+free : (k : ℕ) (W : Net) (v : ℕ) → owned k W v ≡ false → (b : ℕ) → BaseOf k b → W .base b .own ≡ v → ⊥
+unfolding owned
 free zero W v e b B q = omega (arith, B .least, B .most)
-free (suc k) W v e b B q = cases (eqb b (suc k)) refl (λ C. free k W v (or-false (eqb (W .base (suc k) .own) v) (takenBelow k W v) e .1) b C q)
+free (suc k) W v e b B q = cases (eqb b (suc k)) refl (λ C. free k W v (or-false (eqb (W .base (suc k) .own) v) (owned k W v) e .1) b C q)
   where
     cases : (x : Bool) → eqb b (suc k) ≡ x → (BaseOf k b → ⊥) → ⊥
     cases true y rest =
-        eqb-false (W .base (suc k) .own) v (or-false (eqb (W .base (suc k) .own) v) (takenBelow k W v) e .0) (subst (λ (z : ℕ). W .base z .own ≡ v) (eqb-true b (suc k) y) q)
+        eqb-false (W .base (suc k) .own) v (or-false (eqb (W .base (suc k) .own) v) (owned k W v) e .0) (subst (λ (z : ℕ). W .base z .own ≡ v) (eqb-true b (suc k) y) q)
     cases false y rest = rest (record { least = B .least; most = omega (arith, B .most, eqb-false b (suc k) y) })
 
 -- one entry replaced
@@ -136,11 +137,11 @@ named-net n t b v id W e =
 abbrev Given : ℕ → ℕ → Story → Type 0
 Given m k st = Begins k st × (st .n ≡ m)
 
-id-passed : (W : Net) (v : ℕ) → idRefusal W v ≡ 0 → (1 ≤ v) × (takenBelow mostBases W v ≡ false)
+id-passed : (W : Net) (v : ℕ) → idRefusal W v ≡ 0 → (1 ≤ v) × (owned mostBases W v ≡ false)
 unfolding idRefusal
 id-passed W v e =
-    let p = passed (eqb v 0) 2 (choose (takenBelow mostBases W v) 14 0) e in
-    (omega (arith, eqb-false v 0 (p .0)), passed (takenBelow mostBases W v) 13 0 (p .1) .0)
+    let p = passed (eqb v 0) 2 (choose (owned mostBases W v) 14 0) e in
+    (omega (arith, eqb-false v 0 (p .0)), passed (owned mostBases W v) 13 0 (p .1) .0)
 
 named-begins : (m k v next : ℕ) (st : Story) → suc k ≤ m → v < 2 ^ 32 → idRefusal (st .net) v ≡ 0 → Given m k st → Given m (suc k) (withId (suc k) v (onward next st))
 unfolding withId onward

@@ -1,0 +1,71 @@
+-- An idle record from another, and identifiers looked up base by base.
+use Prim.Native.Nat.{ℕ, zero, suc, _-_, _≤_, _<_}
+use mathlib.Core.Path.{_≡_, refl, sym, ap, _∙_}
+use mathlib.Core.Bool.{Bool, true, false}
+use mathlib.Core.List.{List}
+use native.Mathlib.Omega.{arith}
+use borrow.Author.Tests.{eq-eqb, ne-eqb, le-leb, lt-leb}
+use lib.Dec.{eqb}
+use lib.ListN.{length}
+use Rattle.limits.specs.Limits.{mostBases}
+use Rattle.lists.specs.Choice.{or}
+use Rattle.lists.specs.Choice.Laws.{choose-ind, chosen-yes, chosen-no, or-first}
+use Rattle.protocol.specs.declared.Base.{Base}
+use Rattle.protocol.specs.Sound.{settingRefusal, idleBase}
+use Rattle.protocol.specs.Net as Nets
+use Rattle.soundness.specs.declared.idle.Made.{Made}
+use Rattle.soundness.specs.Made.{madeOf}
+use Rattle.net.specs.Header.{owned, idRefusal, faultyRefusal}
+
+-- the record that a call which is turned down answers is idle too
+made-idle : madeOf 0 0 0 .base ≡ idleBase 0 0 0
+unfolding madeOf
+made-idle = choose-ind (λ (b : Base). b ≡ idleBase 0 0 0) (eqb (settingRefusal 0 0 0) 0) (λ _. refl) (λ _. refl)
+
+pub idle-from : (n t own : ℕ) {m : Made} → m ≡ madeOf 0 0 0
+    → record { n = n; t = t; state = m .base .state; sent = m .base .sent; own = own; «final_list» = m .base .«final_list»; links = m .base .links } ≡ idleBase n t own
+unfolding idleBase
+idle-from n t own e =
+    ap (λ (b : Base). record { n = n; t = t; state = b .state; sent = b .sent; own = own; «final_list» = b .«final_list»; links = b .links }) (ap (λ (m : Made). m .base) e ∙ made-idle)
+
+-- ---- faulty links
+module _ (t : ℕ) (faulty : List Nets.Pair) {r : ℕ} (e : r ≡ length faulty) where
+  pub too-many : t ≤ r → 15 ≡ faultyRefusal t faulty
+  unfolding faultyRefusal
+  too-many h = chosen-yes _ (le-leb t (length faulty) (omega arith)) refl
+
+  pub few-enough : r < t → 0 ≡ faultyRefusal t faulty
+  unfolding faultyRefusal
+  few-enough h = chosen-no _ (lt-leb t (length faulty) (omega arith)) refl
+
+-- ---- identifiers
+module _ (W : Nets.Net) (v : ℕ) where
+  pub owned-here : (b : ℕ) → 0 < b → W .base b .own ≡ v → owned b W v ≡ true
+  unfolding owned
+  owned-here zero h e = absurd (omega arith)
+  owned-here (suc b) h e = or-first _ (eq-eqb (W .base (suc b) .own) v e)
+
+  pub owned-below : (b : ℕ) → 0 < b → (W .base b .own ≡ v → ⊥) → owned b W v ≡ owned (b - 1) W v
+  unfolding owned or
+  owned-below zero h e = absurd (omega arith)
+  owned-below (suc b) h e = rw (ne-eqb (W .base (suc b) .own) v e, less b)
+    where
+      less : (b : ℕ) → suc b - 1 ≡ b
+      less b = omega arith
+
+  pub owned-none : (b : ℕ) → b ≤ 0 → owned b W v ≡ false
+  unfolding owned
+  owned-none zero h = refl
+  owned-none (suc b) h = absurd (omega arith)
+
+  pub no-identifier : v ≡ 0 → 3 ≡ idRefusal W v
+  unfolding idRefusal
+  no-identifier e = chosen-yes _ (eq-eqb v 0 e) refl
+
+  pub two-owners : (v ≡ 0 → ⊥) → {r : Bool} → r ≡ owned mostBases W v → r ≡ true → 14 ≡ idRefusal W v
+  unfolding idRefusal
+  two-owners n e y = chosen-no _ (ne-eqb v 0 n) (chosen-yes _ (sym e ∙ y) refl)
+
+  pub one-owner : (v ≡ 0 → ⊥) → {r : Bool} → r ≡ owned mostBases W v → r ≡ false → 0 ≡ idRefusal W v
+  unfolding idRefusal
+  one-owner n e y = chosen-no _ (ne-eqb v 0 n) (chosen-no _ (sym e ∙ y) refl)

@@ -1,0 +1,31 @@
+// A whole net as the program keeps it: one node a base, and the links that are faulty. specs/Shown.antt says which net of document 01 it stands
+// for.
+pub mod links;
+pub mod made;
+pub mod nodes;
+
+use limits::MOST_BASES;
+use node::Node;
+
+// Links that may be faulty in the largest net.
+pub const MOST_FAULTY: usize = (MOST_BASES - 2) / 2;
+
+// A link by its two bases.
+pub struct Pair {
+    pub one: u8,
+    pub other: u8,
+}
+
+// The faulty links, in the order in which they were named.
+pub struct Faulty {
+    pub count: usize,
+    pub pairs: [Pair; MOST_FAULTY],
+}
+
+pub struct Net {
+    pub n: u8,
+    pub t: u8,
+    pub faulty: Faulty,
+    // Base b stands at b - 1.
+    pub nodes: [Node; MOST_BASES],
+}

@@ -1,0 +1,83 @@
+// The links that are named faulty.
+use crate::Faulty;
+use crate::MOST_FAULTY;
+use crate::Net;
+use crate::Pair;
+ghost use mathlib.Core.Path.{_≡_};
+ghost use lib.ListN.{length};
+ghost use Prim.Native.Nat.{_≤_};
+ghost use lib.Dec.{eqb};
+ghost use Rattle.lists.specs.Choice.{and};
+ghost use Rattle.protocol.specs.Net.{joins, good};
+ghost use Rattle.net.specs.Shown.{pairOf, pairsOf, faultyRoom};
+ghost use Rattle.net.specs.Header.{faultyRefusal, withFaulty};
+
+fn is_from(pair: Pair, a: u8, b: u8) -> bool
+    ensures { λ r. ⌜ r ≡ and (eqb (pair .one) a) (eqb (pair .other) b) ⌝ }
+{
+    if pair.one != a {
+        return false;
+    }
+    pair.other == b
+}
+
+fn joins_bases(pair: Pair, a: u8, b: u8) -> bool
+    ensures { λ r. ⌜ r ≡ joins (pairOf pair) a b ⌝ }
+{
+    if is_from(pair, a, b) {
+        return true;
+    }
+    is_from(pair, b, a)
+}
+
+// How many are named.
+fn named_faulty(faulty: Faulty) -> usize
+    ensures { λ r. ⌜ (r ≡ length (pairsOf faulty)) × (r ≤ faultyRoom) ⌝ }
+{
+    if MOST_FAULTY < faulty.count {
+        return MOST_FAULTY;
+    }
+    faulty.count
+}
+
+// Whether the link between a and b is good.
+pub fn is_good(faulty: Faulty, a: u8, b: u8) -> bool
+    ensures { λ r. ⌜ r ≡ good (pairsOf faulty) a b ⌝ }
+{
+    let count = named_faulty(faulty);
+    let mut i: usize = 0;
+    while i < count {
+        if joins_bases(faulty.pairs[i], a, b) {
+            return false;
+        }
+        i += 1;
+    }
+    true
+}
+
+// Number 15, or 0 where one link more may be named.
+pub fn faulty_refusal(faulty: Faulty, t: u8) -> u8
+    ensures { λ r. ⌜ r ≡ faultyRefusal t (pairsOf faulty) ⌝ }
+{
+    if (t as usize) <= named_faulty(faulty) {
+        return 15;
+    }
+    0
+}
+
+// The net with the link between a and b named faulty.
+pub fn with_faulty(net: Net, a: u8, b: u8) -> Net
+    ensures { λ r. ⌜ r ≡ withFaulty net a b ⌝ }
+{
+    let mut faulty = net.faulty;
+    let count = faulty.count;
+    if MOST_FAULTY <= count {
+        return net;
+    }
+    let pair = Pair { one: a, other: b };
+    faulty.pairs[count] = pair;
+    faulty.count = count + 1;
+    let mut after = net;
+    after.faulty = faulty;
+    after
+}

@@ -1,0 +1,80 @@
+// The bases of a net by their numbers, from 1.
+use crate::Net;
+use limits::LONGEST_FRAME;
+use limits::MOST_BASES;
+use node::Frame;
+use node::MARKS;
+use node::MOST_BROADCASTS;
+use node::Node;
+use protocol::Base;
+use soundness::idle::make_idle;
+ghost use mathlib.Core.Path.{_≡_};
+ghost use Rattle.protocol.specs.Sound.{idleBase};
+ghost use Rattle.net.specs.Shown.{emptyNode, nodeAt, withNode, shown};
+
+// The record of an idle base. A base that has no identifier yet has zero.
+pub(crate) fn idle_base(n: u8, t: u8, own: u32) -> Base
+    ensures { λ r. ⌜ r ≡ idleBase n t own ⌝ }
+{
+    let made = make_idle(0, 0, 0);
+    let mut base = made.base;
+    base.n = n;
+    base.t = t;
+    base.own = own;
+    base
+}
+
+// A base with no identifier yet, idle, with no broadcast and no carry.
+pub(crate) fn empty_node(n: u8, t: u8) -> Node
+    ensures { λ r. ⌜ r ≡ emptyNode n t ⌝ }
+{
+    let base = idle_base(n, t, 0);
+    let frame = Frame {
+        len: 0,
+        bytes: [0u8; LONGEST_FRAME],
+    };
+    Node {
+        base,
+        count: 0,
+        frames: [frame; MOST_BROADCASTS],
+        heard: [0u8; MARKS],
+    }
+}
+
+// Base b; for a number that no base has, one that is as at the beginning.
+pub fn node_at(net: Net, b: u8) -> Node
+    ensures { λ r. ⌜ r ≡ nodeAt net b ⌝ }
+{
+    let place = b as usize;
+    if place < 1 {
+        return empty_node(net.n, net.t);
+    }
+    if MOST_BASES < place {
+        return empty_node(net.n, net.t);
+    }
+    net.nodes[place - 1]
+}
+
+// The net with base b replaced.
+pub fn with_node(net: Net, b: u8, node: Node) -> Net
+    ensures { λ r. ⌜ r ≡ withNode net b node ⌝ }
+{
+    let place = b as usize;
+    if place < 1 {
+        return net;
+    }
+    if MOST_BASES < place {
+        return net;
+    }
+    let mut after = net;
+    after.nodes[place - 1] = node;
+    after
+}
+
+// The record of base b.
+pub fn base_of(net: Net, b: u8) -> Base
+    ensures { λ r. ⌜ r ≡ shown net .base b ⌝ }
+{
+    let node = node_at(net, b);
+    node.base
+}

@@ -1,0 +1,122 @@
+-- What the calls of a base answer and broadcast fits where the program keeps it: three frames at most, each in its place, all of them in the output;
+-- and a call that is turned down changes nothing. So what is taken from the output are the frames that the call broadcast.
+use Prim.Native.Nat.{ℕ, _+_, _≤_, _<_}
+use mathlib.Core.Path.{_≡_, refl, sym, ap, _∙_, subst}
+use mathlib.Core.Bool.{true}
+use mathlib.Core.List.{List, [], _∷_, _++_}
+use native.Mathlib.Omega.{arith}
+use lib.ListN.{length}
+use Rattle.limits.specs.Limits.{mostBases, frameBytes, longestFrame, outputRoom}
+use Rattle.lists.specs.Lists.{Below}
+use Rattle.frame.specs.Message.{Message, announce, verify, correctFinal, verifyFinal, kindOf, idsOf}
+use Rattle.frame.specs.Encoding.{encode}
+use Rattle.frame.specs.Encoding.Laws.{length-frame}
+use Rattle.protocol.specs.declared.Base.{Base}
+use Rattle.protocol.specs.Record.Memory.{Sized}
+use Rattle.protocol.specs.Sound.{idle}
+use Rattle.protocol.specs.Sound.Laws.{record-passed}
+use Rattle.protocol.specs.Steps.{Answer, accepted, discarded, refused, Done, refuses, discards, accepts, withState, stops, onMessage, begins, startStep, start, arrivalStep, arrival}
+use Rattle.protocol.specs.Steps.Answers.{Unchanged}
+use Rattle.protocol.specs.Steps.Cases.{Takes, takesAnnounce, takesVerify, takesCorrect, takesAndVotes, takesVerifyFinal, Ends, discarding, runningOn, stopping, message-ends, begun, afterStart, start-step-cases, arrival-step-cases}
+use Rattle.protocol.specs.Steps.Laws.{takes-rest}
+use Rattle.protocol.specs.Steps.Output.{start-brief, arrival-brief}
+use Rattle.protocol.specs.Steps.Refusals.{Heard, start-cases, arrival-cases, arrival-heard}
+use Rattle.protocol.specs.Steps.Sizes.{Brief, valid-fits, decides-fits}
+
+-- ---- each frame fits in its place
+abbrev pub AllShort : List Message → Type 0
+AllShort [] = Unit {0}
+AllShort (m ∷ says) = (length (encode m) ≤ longestFrame) × AllShort says
+
+pub encoded-length : (m : Message) → length (encode m) ≡ frameBytes (length (idsOf m))
+unfolding encode
+encoded-length m = length-frame (kindOf m) (idsOf m)
+
+short : (m : Message) → length (idsOf m) ≤ mostBases → length (encode m) ≤ longestFrame
+short m h = omega (arith, encoded-length m)
+
+short-append : (a b : List Message) → AllShort a → AllShort b → AllShort (a ++ b)
+short-append [] b p q = q
+short-append (m ∷ a) b p q = (p .0, short-append a b (p .1) q)
+
+takes-short : {b : Base} {i : ℕ} {m : Message} {c : Base} {said : List Message} → length (idsOf m) ≤ mostBases → Takes b i m c said → AllShort said
+unfolding idsOf
+takes-short h (takesAnnounce g p q r) = (short (verify g) (omega arith), tt)
+takes-short h (takesVerify g p q) = tt
+takes-short h (takesCorrect v o p) = tt
+takes-short h (takesAndVotes v o p) = (short (verifyFinal v) h, tt)
+takes-short h (takesVerifyFinal v o) = tt
+
+-- ---- an answer that is not a refusal
+abbrev Answered : Done → Type 0
+Answered d = (r : ℕ) → d .answer ≡ refused r → ⊥
+
+accepted-answer : (r : ℕ) → accepted ≡ refused r → ⊥
+accepted-answer r e = let z : _≡_ {A = ℕ} 0 1 = cc in omega arith
+
+discarded-answer : (r : ℕ) → discarded ≡ refused r → ⊥
+discarded-answer r e = let z : _≡_ {A = ℕ} 0 1 = cc in omega arith
+
+record Stepped (d : Done) : Type 0 where
+  small : AllShort (d .says)
+  answered : Answered d
+
+discards-stepped : (b : Base) → Stepped (discards b)
+unfolding discards
+discards-stepped b = record { small = tt; answered = discarded-answer }
+
+ends-stepped : {b : Base} {i : ℕ} {m : Message} {d : Done} → b .n ≤ mostBases → length (idsOf m) ≤ mostBases → Ends b i m d → Stepped d
+unfolding accepts stops idsOf
+ends-stepped {b} n h discarding = discards-stepped b
+ends-stepped n h (runningOn T) = record { small = takes-short h T; answered = accepted-answer }
+ends-stepped n h (stopping {c = c} {said = said} {v = v} T D) = record {
+  small = short-append said (correctFinal v ∷ []) (takes-short h T) (short (correctFinal v) (decides-fits (omega (arith, takes-rest T .setting .n)) h D), tt);
+  answered = accepted-answer;
+}
+
+own-short : (own : ℕ) (says : List Message) → AllShort says → AllShort (announce own ∷ (verify own ∷ says))
+unfolding idsOf
+own-short own says p = (short (announce own) (omega arith), (short (verify own) (omega arith), p))
+
+begins-stepped : (b : Base) → Stepped (begins b)
+unfolding begins accepts
+begins-stepped b = record { small = own-short (b .own) [] tt; answered = accepted-answer }
+
+after-start-stepped : (b : Base) (d : Done) → Stepped d → Stepped (afterStart b d)
+unfolding afterStart
+after-start-stepped b d S = record { small = own-short (b .own) (d .says) (S .small); answered = S .answered }
+
+arrival-stepped : (b : Base) (i : ℕ) (m : Message) → Heard b i m → Stepped (arrivalStep b i m)
+arrival-stepped b i m H =
+    let n = record-passed b (H .refusal) .net .most in
+    let h = valid-fits b m (H .refusal) (H .valid) in
+    arrival-step-cases Stepped b i m (λ _. discards-stepped b) (λ _. after-start-stepped b _ (ends-stepped {b = begun b} (unfold withState in n) h (message-ends (begun b) i m))) (λ _. ends-stepped n h (message-ends b i m))
+
+-- ---- the calls
+pub record Tidy (b : Base) (d : Done) : Type 0 where
+  pub brief : Brief 3 outputRoom d
+  pub small : AllShort (d .says)
+  pub down : (r : ℕ) → d .answer ≡ refused r → Unchanged b d
+
+record Ended (b : Base) (d : Done) : Type 0 where
+  small : AllShort (d .says)
+  down : (r : ℕ) → d .answer ≡ refused r → Unchanged b d
+
+refuses-ended : (b : Base) (r : ℕ) → Ended b (refuses b r)
+unfolding refuses
+refuses-ended b r = record { small = tt; down = λ _ _. record { base = refl; says = refl } }
+
+stepped-ended : (b : Base) (d : Done) → Stepped d → Ended b d
+stepped-ended b d S = record { small = S .small; down = λ r e. absurd (S .answered r e) }
+
+pub start-tidy : (b : Base) (room : ℕ) → Tidy b (start b room)
+start-tidy b room = record { brief = start-brief b room; small = E .small; down = E .down }
+  where
+    E : Ended b (start b room)
+    E = start-cases (Ended b) b room (λ r _. refuses-ended b r) (λ _. stepped-ended b _ (start-step-cases Stepped b (λ _. begins-stepped b) (λ _. discards-stepped b)))
+
+pub arrival-tidy : (b : Base) (link : ℕ) (burst : List ℕ) (room : ℕ) → Sized b → Below 256 burst → Tidy b (arrival b link burst room)
+arrival-tidy b link burst room S bytes = record { brief = arrival-brief b link burst room S bytes; small = E .small; down = E .down }
+  where
+    E : Ended b (arrival b link burst room)
+    E = arrival-cases (Ended b) b link burst room (λ r _. refuses-ended b r) (λ e. stepped-ended b _ (arrival-stepped b _ _ (arrival-heard b link burst room bytes e)))

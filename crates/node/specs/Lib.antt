@@ -1,0 +1,3 @@
+pub mod Node
+pub mod Written
+pub mod Calls

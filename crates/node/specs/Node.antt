@@ -1,0 +1,91 @@
+-- What a base of the program's net stands for: its record, its broadcasts, and the carries made to it ("The net over a whole history", document 01).
+use Prim.Native.Nat.{ℕ, _+_, _*_, _-_}
+use mathlib.Core.Bool.{Bool, not}
+use mathlib.Core.List.{List, [], _∷_, map}
+use lib.Dec.{eqb, ltb, leb}
+use lib.ListN.{length, getD, take, set, replicate}
+use Rattle.limits.specs.Limits.{mostBases, longestFrame}
+use Rattle.lists.specs.Choice.{choose, and}
+use Rattle.lists.specs.Lists.{padTo}
+use Rattle.frame.specs.Encoding.{encode}
+use Rattle.protocol.specs.declared.Base.{Base}
+use Rattle.protocol.specs.Sound.{idleBase}
+use Rattle.protocol.specs.Steps.{Done}
+use Rattle.protocol.specs.Net.{callRefusal}
+use Rattle.node.specs.declared.Frame.{Frame}
+use Rattle.node.specs.declared.Node.{Node}
+use Rattle.node.specs.declared.Told.{Told}
+pub mod Within
+pub mod Counts
+pub mod Memory
+pub mod Log
+
+-- "A base broadcasts at most n + 3 in its life."
+abbrev pub mostBroadcasts : ℕ
+mostBroadcasts = mostBases + 3
+
+-- one mark for each broadcast of each base
+abbrev pub marks : ℕ
+marks = mostBases * mostBroadcasts
+
+-- x is one of 1 to most
+unfoldable pub within : ℕ → ℕ → Bool
+within x most = and (leb 1 x) (leb x most)
+
+-- ---- broadcasts
+-- the bytes of a frame
+unfoldable pub written : Frame → List ℕ
+written f = take (f .len) (f .bytes)
+
+-- "each base's broadcasts, numbered from 1 in the order written"
+unfoldable pub logOf : Node → List (List ℕ)
+logOf v = map written (take (v .count) (v .frames))
+
+unfoldable pub frameOf : List ℕ → Frame
+frameOf bytes = record { len = length bytes; bytes = padTo longestFrame bytes }
+
+-- a base's k-th broadcast, and an empty frame for one that was not broadcast
+abbrev pub emptyFrame : Frame
+emptyFrame = record { len = 0; bytes = replicate longestFrame 0 }
+
+-- the frame that is read past the end of an array
+abbrev pub noFrame : Frame
+noFrame = record { len = 0; bytes = [] }
+
+unfoldable pub frameAt : Node → ℕ → Frame
+frameAt v k = choose (ltb (k - 1) (length (logOf v))) (getD (v .frames) (k - 1) noFrame) emptyFrame
+
+-- one broadcast more, while there is room: in a history there always is
+unfoldable pub joined : Node → List ℕ → Node
+joined v bytes =
+    choose (ltb (v .count) mostBroadcasts) (record { base = v .base; count = v .count + 1; frames = set (v .frames) (v .count) (frameOf bytes); heard = v .heard })
+    v
+
+-- "Frames written join b's broadcasts in their order"
+unfoldable pub joinedAll : Node → List (List ℕ) → Node
+joinedAll v [] = v
+joinedAll v (bytes ∷ log) = joinedAll (joined v bytes) log
+
+-- ---- calls
+unfoldable pub withBase : Node → Base → Node
+withBase v b = record { base = b; count = v .count; frames = v .frames; heard = v .heard }
+
+-- a base after a call on its record; a call that is turned down changes nothing
+unfoldable pub after : Node → Done → Node
+after v d = joinedAll (withBase v (d .base)) (map encode (d .says))
+
+unfoldable pub told : Node → Done → Told
+told v d = record { refusal = callRefusal (d .answer); node = after v d }
+
+-- ---- carries
+-- the place of the mark of a's k-th broadcast
+unfoldable pub place : ℕ → ℕ → ℕ
+place a k = (a - 1) * mostBroadcasts + (k - 1)
+
+unfoldable pub heardBy : Node → ℕ → ℕ → Bool
+heardBy v a k = and (within a mostBases) (and (within k mostBroadcasts) (not (eqb (getD (v .heard) (place a k) 0) 0)))
+
+unfoldable pub marked : Node → ℕ → ℕ → Node
+marked v a k =
+    choose (and (within a mostBases) (within k mostBroadcasts)) (record { base = v .base; count = v .count; frames = v .frames; heard = set (v .heard) (place a k) 1 })
+    v
