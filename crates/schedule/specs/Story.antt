@@ -1,12 +1,12 @@
 -- What a schedule means (document 01, "The replay program"): its lines one after another, from the net at the beginning to the net at the end, or to the first
 -- line that is turned down.
 use Prim.Native.Nat.{ℕ, zero, suc, _+_}
-use mathlib.Core.Bool.{Bool, not}
+use mathlib.Core.Bool.{not}
 use mathlib.Core.List.{List, [], _∷_, _++_}
 use lib.Dec.{eqb, ltb, leb}
 use lib.ListN.{length, drop}
 use Rattle.limits.specs.Limits.{outputRoom, longestSchedule}
-use Rattle.lists.specs.Choice.{choose, or}
+use Rattle.lists.specs.Choice.{choose}
 use Rattle.text.specs.Hex.{hexBytes}
 use Rattle.lines.specs.declared.event.Line.{Line}
 use Rattle.lines.specs.declared.event.Line.the-variants.{Start, Carry, Forge, Wrong}

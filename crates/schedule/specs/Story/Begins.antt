@@ -1,8 +1,8 @@
 -- The net after a header that is not turned down: n bases, t and at most t faulty links, idle records whose identifiers are above zero and different.
-use Prim.Native.Nat.{ℕ, zero, suc, _+_, _^_, _≤_, _<_}
+use Prim.Native.Nat.{ℕ, zero, suc, _^_, _≤_, _<_}
 use mathlib.Core.Path.{_≡_, refl, sym, ap, _∙_, subst}
 use mathlib.Core.Bool.{Bool, true, false, not}
-use mathlib.Core.List.{List, [], _∷_, _++_}
+use mathlib.Core.List.{List, [], _∷_}
 use native.Mathlib.Omega.{arith}
 use borrow.Author.Tests.{eqb-true, eqb-false, eq-eqb, ne-eqb, ltb-false, leb-false}
 use lib.Dec.{eqb, ltb, leb}
@@ -10,22 +10,18 @@ use lib.ListN.{length, length-append}
 use Rattle.limits.specs.Limits.{mostBases, mostFaulty}
 use Rattle.limits.specs.Refusals.{netRefusal, NetSize}
 use Rattle.limits.specs.Refusals.Laws.{net-passed}
-use Rattle.lists.specs.Choice.{choose, or, first}
+use Rattle.lists.specs.Choice.{choose}
 use Rattle.lists.specs.Choice.Laws.{choose-ind, choose-yes, choose-no, first-passed, passed, or-false}
-use Rattle.text.specs.declared.number.Number.{Number}
-use Rattle.text.specs.declared.number.Number.the-variants.{Value}
 use Rattle.text.specs.Number.Range.{Field}
-use Rattle.lines.specs.declared.bases.Two.{Two}
 use Rattle.lines.specs.Lines.{netLine, idLine, faultyLine}
 use Rattle.lines.specs.Lines.Told.{number-ind, two-ind, TwoTold, FaultyTold, net-told, id-told, faulty-told}
-use Rattle.protocol.specs.declared.Base.{Base}
 use Rattle.protocol.specs.Sound.{idleBase}
 use Rattle.protocol.specs.Net.{Net, Pair, good, replaced}
 use Rattle.protocol.specs.Agreement.{BaseOf, Setting, Fresh}
 use Rattle.protocol.specs.Agreement.Premise.{idleNet, idle-fresh}
 use Rattle.net.specs.Header.{owned, idRefusal, faultyRefusal}
 use Rattle.schedule.specs.Header.{sizeRefusal}
-use Rattle.schedule.specs.Story.{Story, unread, refuse, onward, withSize, withId, withFaulty, judged, netStep, idStep, idSteps, faultyStep, repeat, header}
+use Rattle.schedule.specs.Story.{Story, unread, onward, withSize, withId, withFaulty, netStep, idStep, idSteps, faultyStep, header}
 use Rattle.schedule.specs.Story.Laws.{Unrefused, refuse-owes, judged-owes, unless-owes, repeat-ind}
 
 -- the bases 1 to k have identifiers of 32 bits above zero, different at each
@@ -150,15 +146,17 @@ named-begins m k v next st l word e g =
     let p = id-passed (st .net) v e in
     let own : (b : ℕ) → st .net .base b .own ≡ B .id b = λ b. ap (λ (W : Net). W .base b .own) (B .net) ∙ (unfold idleNet idleBase in refl) in
     let new : (b : ℕ) → BaseOf k b → B .id b ≡ v → ⊥ =
-        λ b C q. free mostBases (st .net) v (p .1) b (record { least = C .least; most = omega (arith, C .most, g .1, B .size .most) }) (own b ∙ q) in
-    (record {
-      size = B .size;
-      limit = B .limit;
-      few-faulty = B .few-faulty;
-      id = replaced (suc k) v (B .id);
-      named = named-more k v (B .id) (B .named) (p .0) word new;
-      net = named-net (st .n) (st .t) (suc k) v (B .id) (st .net) (B .net);
-    }, g .1)
+    λ b C q. free mostBases (st .net) v (p .1) b (record { least = C .least; most = omega (arith, C .most, g .1, B .size .most) }) (own b ∙ q) in (
+      record {
+        size = B .size;
+        limit = B .limit;
+        few-faulty = B .few-faulty;
+        id = replaced (suc k) v (B .id);
+        named = named-more k v (B .id) (B .named) (p .0) word new;
+        net = named-net (st .n) (st .t) (suc k) v (B .id) (st .net) (B .net);
+      },
+      g .1,
+    )
 
 id-begins : (s : List ℕ) (m k : ℕ) (st : Story) → suc k ≤ m → Unrefused (Given m k) st → Unrefused (Given m (suc k)) (idStep s (suc k) st)
 unfolding idStep

@@ -1,12 +1,11 @@
 -- Laws of steps: what a step that is not turned down tells, and a step that does nothing more.
-use Prim.Native.Nat.{ℕ, zero, suc, _≤_, _<_}
-use mathlib.Core.Path.{_≡_, refl, sym, ap, _∙_, subst}
+use Prim.Native.Nat.{ℕ, zero, suc, _≤_}
+use mathlib.Core.Path.{_≡_, refl, sym, ap, _∙_}
 use mathlib.Core.Bool.{Bool, true, false}
 use native.Mathlib.Omega.{arith}
-use borrow.Author.Tests.{eqb-true, eqb-false, eq-eqb, ne-eqb}
+use borrow.Author.Tests.{eqb-true, eqb-false}
 use lib.Dec.{eqb}
-use Rattle.lists.specs.Choice.{choose}
-use Rattle.lists.specs.Choice.Laws.{choose-ind, choose-yes, choose-no}
+use Rattle.lists.specs.Choice.Laws.{choose-ind}
 use Rattle.schedule.specs.Story.{Story, refuse, judged, unlessRefused, repeat}
 
 -- ---- a line that is not turned down

@@ -1,7 +1,7 @@
 -- The lines of a schedule's events tell a history of the net: proper events that happen one after another from the net at the beginning.
-use Prim.Native.Nat.{ℕ, zero, suc, _+_, _≤_, _<_}
+use Prim.Native.Nat.{ℕ}
 use mathlib.Core.Path.{_≡_, refl, sym, ap, _∙_, subst}
-use mathlib.Core.Bool.{Bool, true, false}
+use mathlib.Core.Bool.{true}
 use mathlib.Core.List.{List, [], _∷_, _++_}
 use native.Mathlib.Omega.{arith}
 use lib.Dec.{leb}
@@ -17,7 +17,7 @@ use Rattle.lines.specs.Lines.Laws.{base-range, two-range}
 use Rattle.lines.specs.Lines.Told.{EventTold, event-told}
 use Rattle.protocol.specs.Net.{Net, Pair, Event, starts, carry, forge, eventRefusal, happens, run}
 use Rattle.protocol.specs.Agreement.{BaseOf, Proper, AllProper}
-use Rattle.schedule.specs.Story.{Story, refuse, onward, withNet, judged, eventStep, lineStep, nextLine, repeat, wholeStory, header}
+use Rattle.schedule.specs.Story.{Story, onward, withNet, eventStep, lineStep, nextLine, wholeStory, header}
 use Rattle.schedule.specs.Story.Laws.{Unrefused, refuse-owes, judged-owes, unless-owes, repeat-ind}
 
 -- ---- one event more at the end of a history

@@ -1,7 +1,5 @@
 -- A schedule that is not turned down is read to its end: every line takes a byte at least, so as many lines as there are bytes are enough.
-use Prim.Native.Nat.{ℕ, zero, suc, _+_, _≤_, _<_}
-use mathlib.Core.Path.{_≡_, refl, sym, ap, _∙_, subst}
-use mathlib.Core.Bool.{Bool, true, false}
+use Prim.Native.Nat.{ℕ, zero, suc, _≤_, _<_}
 use mathlib.Core.List.{List}
 use mathlib.Core.Logic.{_⊎_, inl, inr}
 use native.Mathlib.Omega.{arith}
@@ -16,7 +14,7 @@ use Rattle.lines.specs.declared.event.Line.the-variants.{Start, Carry, Forge, W
 use Rattle.lines.specs.Lines.{eventLine}
 use Rattle.lines.specs.Lines.Told.{EventTold, event-told}
 use Rattle.protocol.specs.Net.{Event, starts, carry, forge, eventRefusal, happens}
-use Rattle.schedule.specs.Story.{Story, refuse, onward, withNet, judged, eventStep, lineStep, nextLine, repeat, wholeStory, header}
+use Rattle.schedule.specs.Story.{Story, onward, withNet, eventStep, lineStep, nextLine, repeat, wholeStory, header}
 use Rattle.schedule.specs.Story.Laws.{Unrefused, refuse-owes, judged-owes, unless-owes}
 
 -- the next line begins at k or further on, or the text is at its end

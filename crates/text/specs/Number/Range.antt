@@ -28,7 +28,7 @@ digits-within [] v p h = (h, omega arith)
 digits-within (b ∷ rest) v p h =
     choose-ind (Within p) (isDigit b)
     (λ _. choose-ind (Within p) (ltb mostNumber (withDigit v b)) (λ _. tt)
-      (λ e. further p (digitsFrom rest (withDigit v b) (p + 1)) (digits-within rest (withDigit v b) (p + 1) (ltb-false mostNumber (withDigit v b) e))))
+    (λ e. further p (digitsFrom rest (withDigit v b) (p + 1)) (digits-within rest (withDigit v b) (p + 1) (ltb-false mostNumber (withDigit v b) e))))
     (λ _. (h, omega arith))
 
 number-within : (rest : List ℕ) (p : ℕ) → Within p (numberFrom rest p)
@@ -37,7 +37,7 @@ number-within [] p = tt
 number-within (b ∷ rest) p =
     choose-ind (Within p) (and (leb 48 b) (leb b 57))
     (λ d. choose-ind (Within p) (eqb b 48) (λ _. (omega arith, omega arith))
-      (λ _. further p (digitsFrom rest (b - 48) (p + 1)) (digits-within rest (b - 48) (p + 1) (omega (arith, leb-true b 57 (and-true (leb 48 b) (leb b 57) d .1))))))
+    (λ _. further p (digitsFrom rest (b - 48) (p + 1)) (digits-within rest (b - 48) (p + 1) (omega (arith, leb-true b 57 (and-true (leb 48 b) (leb b 57) d .1))))))
     (λ _. tt)
 
 -- the same, with the byte that closes the field
