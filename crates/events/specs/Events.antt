@@ -1,0 +1,43 @@
+-- What an event does to the program's net. The call, and the number by which the event is turned down, are those of protocol's Net, for the net that the
+-- program's net stands for.
+use Prim.Native.Nat.{ℕ}
+use mathlib.Core.List.{List}
+use lib.Dec.{eqb, ltb}
+use lib.ListN.{length}
+use Rattle.lists.specs.Choice.{choose, and, or}
+use Rattle.protocol.specs.Net.{Event, starts, carry, forge, at, good, call, eventRefusal, refusal}
+use Rattle.protocol.specs.Net as Nets
+use Rattle.node.specs.declared.Node.{Node}
+use Rattle.node.specs.declared.Told.{Told}
+use Rattle.node.specs.Node.{logOf, heardBy, marked}
+use Rattle.node.specs.Node as Nodes
+use Rattle.net.specs.declared.Net.{Net}
+use Rattle.events.specs.declared.Moved.{Moved}
+use Rattle.net.specs.Shown.{nodeAt, withNode, shown, faultyOf}
+pub mod Laws
+
+-- "a carry joins the carries made"
+unfoldable pub marks : Event → Node → Node
+marks (starts b room) v = v
+marks (carry a b k room) v = marked v a k
+marks (forge a b bytes room) v = v
+
+-- "An event that is turned down, by 16 to 18 or by the base's call, changes nothing"
+unfoldable pub after : Net → Event → Net
+after w e = choose (eqb (refusal (faultyOf w) (shown w) e) 0) (withNode w (at e) (marks e (Nodes.after (nodeAt w (at e)) (call (shown w) e)))) w
+
+-- the net, and the number by which a line of a schedule is refused: a burst that the base's call turns down leaves the schedule running
+unfoldable pub moved : Net → Event → Moved
+moved w e = record { refusal = eventRefusal (faultyOf w) (shown w) e; net = after w e }
+
+-- ---- parts
+-- numbers 16 and 17, of the sender and the receiver
+unfoldable pub carryRefusal : Node → Node → List Nets.Pair → ℕ → ℕ → ℕ → ℕ
+carryRefusal v u faulty a b k =
+    choose (or (eqb k 0) (ltb (length (logOf v)) k)) 16
+    (choose (and (good faulty a b) (heardBy u a k)) 17
+    0)
+
+-- base b after a call that was not turned down
+unfoldable pub reached : Net → ℕ → Told → Moved
+reached w b told = record { refusal = 0; net = choose (eqb (told .refusal) 0) (withNode w b (told .node)) w }

@@ -1,0 +1,73 @@
+// What waits: broadcasts and bases at the other end of a good link to which they were not carried.
+use limits::MOST_BASES;
+use net::Faulty;
+use net::Net;
+use net::links::is_good;
+use node::Node;
+use node::log::broadcasts;
+use node::marks::unheard;
+ghost use Prim.Native.Nat.{suc, _≤_, _<_, _*_, min};
+ghost use mathlib.Core.Path.{_≡_};
+ghost use Rattle.limits.specs.Limits.{mostBases};
+ghost use Rattle.counting.specs.Sums.{sum};
+ghost use Rattle.node.specs.Node.{mostBroadcasts};
+ghost use Rattle.protocol.specs.Net.{waitingFrom};
+ghost use Rattle.protocol.specs.Net as Nets;
+ghost use Rattle.net.specs.Shown.{pairsOf, faultyOf, shown, size};
+ghost use Rattle.waiting.specs.Waits.{waitingBetween};
+
+// Broadcasts of a that wait to be carried to b.
+fn waiting_between(sender: Node, receiver: Node, faulty: Faulty, a: u8, b: u8) -> usize
+    ensures { λ r. ⌜ (r ≡ waitingBetween sender receiver (pairsOf faulty) a b) × (r ≤ mostBroadcasts) ⌝ }
+{
+    if a == b {
+        return 0;
+    }
+    if !is_good(faulty, a, b) {
+        return 0;
+    }
+    unheard(receiver, a, broadcasts(sender))
+}
+
+// The bases of the net: n, and no more than there is room for.
+fn size_of(n: u8) -> usize
+    ensures { λ r. ⌜ r ≡ min n mostBases ⌝ }
+{
+    let n = n as usize;
+    if MOST_BASES < n {
+        return MOST_BASES;
+    }
+    n
+}
+
+// Broadcasts of the base at place a that wait.
+fn waiting_from(net: Net, a: usize) -> usize
+    requires { ⌜ a < mostBases ⌝ }
+    ensures { λ r. ⌜ (r ≡ sum (size net) (λ b. waitingFrom (faultyOf net) (shown net) (suc a) (suc b))) × (r ≤ mostBases * mostBroadcasts) ⌝ }
+{
+    let n = size_of(net.n);
+    let sender = net.nodes[a];
+    let faulty = net.faulty;
+    let mut total: usize = 0;
+    let mut b: usize = 0;
+    while b < n {
+        let receiver = net.nodes[b];
+        total += waiting_between(sender, receiver, faulty, (a + 1) as u8, (b + 1) as u8);
+        b += 1;
+    }
+    total
+}
+
+// How many pairs of a broadcast and a base wait.
+pub fn waiting(net: Net) -> usize
+    ensures { λ r. ⌜ r ≡ Nets.waiting (size net) (faultyOf net) (shown net) ⌝ }
+{
+    let n = size_of(net.n);
+    let mut total: usize = 0;
+    let mut a: usize = 0;
+    while a < n {
+        total += waiting_from(net, a);
+        a += 1;
+    }
+    total
+}
