@@ -1,11 +1,12 @@
 -- The report of a schedule (document 01, "The replay program").
 use Prim.Native.Nat.{ℕ, zero, suc, _+_, _*_}
 use mathlib.Core.List.{List, [], _∷_, _++_}
-use lib.Dec.{eqb, ltb}
+use lib.Dec.{eqb, ltb, leb}
 use lib.ListN.{length}
+use lib.Seq.{sets}
 use Rattle.limits.specs.Limits.{mostBases}
 use Rattle.lists.specs.Choice.{choose}
-use Rattle.print.specs.Decimal.{mostDigits, decimalText}
+use Rattle.print.specs.Decimal.{decimalText}
 use Rattle.frame.specs.Encoding.{over}
 use Rattle.lines.specs.Lines.{space, lineFeed}
 use Rattle.protocol.specs.declared.Base.{Base}
@@ -100,13 +101,20 @@ unfoldable pub report : List ℕ → List ℕ
 report s = reportOf (meaning s)
 
 -- ---- in an output
--- the most bytes of a line of n identifiers: `base 16 secondary`, eleven for each identifier, ` leader 4294967295` and the line feed
-abbrev pub lineRoom : ℕ → ℕ
-lineRoom n = 36 + 11 * n
+-- room for any line: `base `, three digits, ` secondary`, eleven bytes for each identifier, ` leader 4294967295` and the line feed
+abbrev pub lineRoom : ℕ
+lineRoom = 37 + 11 * mostBases
 
--- the most bytes of a report: a line a base, and `waiting` with its number
+-- where there is room for any line, a line at its place: the place behind it, and the output
+unfoldable pub lineEnd : List ℕ → ℕ → List ℕ → ℕ
+lineEnd out at text = choose (leb (at + lineRoom) (length out)) (at + length text) at
+
+unfoldable pub lineOutput : List ℕ → ℕ → List ℕ → List ℕ
+lineOutput out at text = choose (leb (at + lineRoom) (length out)) (sets out at text) out
+
+-- room for any report: a line a base, and `waiting`
 abbrev pub reportRoom : ℕ
-reportRoom = mostBases * lineRoom mostBases + (9 + mostDigits)
+reportRoom = (mostBases + 1) * lineRoom
 
 -- an output with less room is left alone, and the length is 0
 unfoldable pub replayLength : List ℕ → List ℕ → ℕ

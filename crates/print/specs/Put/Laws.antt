@@ -7,7 +7,7 @@ use native.Mathlib.Numerals.{add-one}
 use native.Mathlib.Omega.{arith}
 use borrow.Author.Tests.{le-leb, lt-leb}
 use lib.ListN.{length, set, take, drop, getD, length-append}
-use lib.Seq.{sets, sets-eq, take-suc, take-all}
+use lib.Seq.{sets, length-sets, sets-eq, take-suc, take-all}
 use Rattle.lists.specs.Choice.Laws.{choose-yes, choose-no}
 use Rattle.print.specs.Put.{fits, putEnd, putOutput, Put}
 
@@ -62,3 +62,17 @@ put-front {out} {text} room p =
 -- nothing of a text yet
 pub put-begin : (out : List ℕ) (at : ℕ) (w : List ℕ) → Put out at (take 0 w) out (at + 0)
 put-begin out at w = record { past = refl; is = refl }
+
+-- a text more, where there is room for all
+pub put-next : {out : List ℕ} {at : ℕ} {t o₁ : List ℕ} {p : ℕ} (u : List ℕ) {o₂ : List ℕ} {q : ℕ} → Put out at t o₁ p → p + length u ≤ length out
+    → q ≡ putEnd o₁ p u → o₂ ≡ putOutput o₁ p u → Put out at (t ++ u) o₂ q
+put-next {out} {at} {t} {o₁} {p} u a room e o =
+    put-then a (put-fits (omega (arith, ap length (a .is) ∙ length-sets out at t)) e o)
+
+-- the output keeps its length
+pub put-length : {out : List ℕ} {at : ℕ} {t o₁ : List ℕ} {p : ℕ} → Put out at t o₁ p → length o₁ ≡ length out
+put-length {out} {at} {t} a = ap length (a .is) ∙ length-sets out at t
+
+-- how far a text more takes the place
+pub step : {out : List ℕ} {at : ℕ} {t o₁ : List ℕ} {p : ℕ} (u : List ℕ) {o₂ : List ℕ} {q : ℕ} → Put out at t o₁ p → Put out at (t ++ u) o₂ q → q ≡ p + length u
+step {out} {at} {t} u a b = omega (arith, a .past, b .past, length-append t u)
