@@ -11,7 +11,6 @@ use crate::record::RawBase;
 use crate::schedule::render;
 use std::collections::BTreeSet;
 use std::hint::black_box;
-use std::time::{Duration, Instant};
 
 /// One row: what is done once.
 enum Work {
@@ -41,20 +40,36 @@ impl Work {
         black_box(&out);
     }
 
-    /// How often it is done in a second: the best of five tries of some 60 ms.
+    /// How often it is done in a second of processor time, over some 20 ms.
     fn rate(&self, engine: &mut dyn Engine) -> f64 {
-        let mut best: f64 = 0.0;
-        for _ in 0..5 {
-            let begin = Instant::now();
-            let mut count = 0u32;
-            while begin.elapsed() < Duration::from_millis(60) {
-                (0..8).for_each(|_| self.once(engine));
-                count += 8;
+        let begin = processor_time();
+        let mut count = 0u32;
+        loop {
+            (0..8).for_each(|_| self.once(engine));
+            count += 8;
+            let spent = processor_time() - begin;
+            if spent > 0.02 {
+                return f64::from(count) / spent;
             }
-            best = best.max(f64::from(count) / begin.elapsed().as_secs_f64());
         }
-        best
     }
+}
+
+/// Seconds that this thread has been on the processor, so that other work on the machine does not count (Linux).
+fn processor_time() -> f64 {
+    #[repr(C)]
+    struct Timespec {
+        seconds: i64,
+        nanoseconds: i64,
+    }
+    extern "C" {
+        fn clock_gettime(clock: i32, time: *mut Timespec) -> i32;
+    }
+    const THREAD_CPUTIME: i32 = 3;
+    let mut time = Timespec { seconds: 0, nanoseconds: 0 };
+    let failed = unsafe { clock_gettime(THREAD_CPUTIME, &mut time) };
+    assert_eq!(failed, 0, "the thread's clock can be read");
+    time.seconds as f64 + time.nanoseconds as f64 / 1e9
 }
 
 fn list(n: usize) -> Vec<u32> {
@@ -138,18 +153,22 @@ fn rows() -> Vec<(String, Work)> {
     rows
 }
 
-/// The table: each row of the model, and of the engine with the ratio where there is one. A ratio above 1 says that the engine is faster.
+/// The table: each row of the model, and of the engine with the ratio where there is one, by turns, the best of fifteen tries each.
+/// A ratio above 1 says that the engine is faster.
 pub fn run(mut engine: Option<&mut dyn Engine>) -> bool {
-    println!("record: {} bytes; calls a second, best of five", std::mem::size_of::<RawBase>());
+    println!("record: {} bytes; calls in a second of processor time, best of fifteen", std::mem::size_of::<RawBase>());
     println!("{:<52} {:>12} {:>12} {:>7}", "", "model", "engine", "ratio");
     for (name, work) in rows() {
-        let model = work.rate(&mut Model::TRUE.clone());
-        match &mut engine {
-            None => println!("{name:<52} {model:>12.0}"),
-            Some(engine) => {
-                let rate = work.rate(*engine);
-                println!("{name:<52} {model:>12.0} {rate:>12.0} {:>7.2}", rate / model);
+        let (mut model, mut other) = (0.0f64, 0.0f64);
+        for _ in 0..15 {
+            model = model.max(work.rate(&mut Model::TRUE.clone()));
+            if let Some(engine) = &mut engine {
+                other = other.max(work.rate(*engine));
             }
+        }
+        match engine {
+            None => println!("{name:<52} {model:>12.0}"),
+            Some(_) => println!("{name:<52} {model:>12.0} {other:>12.0} {:>7.2}", other / model),
         }
     }
     true
