@@ -1,7 +1,7 @@
 // The tests that make a base stop or vote, on its record.
+use certified::certified_count;
 use limits::MOST_BASES;
 use protocol::Base;
-use tally::certified::certified_count;
 use tally::suspects::suspect_count;
 use tally::vectors::correct_count;
 use tally::vectors::list_tally;

@@ -4,17 +4,14 @@ use mathlib.Core.Path.{_≡_}
 use mathlib.Core.List.{List}
 use mathlib.Core.Bool.{true}
 use lib.ListN.{length, take}
-use Rattle.limits.specs.Limits.{mostBases, frameBytes}
+use Rattle.limits.specs.Limits.{mostBases}
 use Rattle.limits.specs.Refusals.{NetSize}
 use Rattle.lists.specs.Lists.{padTo}
 use Rattle.protocol.specs.declared.Base.{Base}
-use Rattle.protocol.specs.Steps.{Done, encodeAll, vote, secondaryCheck, linkRefusal, outputRefusal}
+use Rattle.protocol.specs.Steps.{Done, encodeAll, vote, secondaryCheck}
 use Rattle.protocol.specs.Sound.{recordRefusal}
-use Rattle.protocol.specs.declared.Outcome.{Outcome}
-use Rattle.protocol.specs.declared.Outcome.the-variants.{Accepted, Discarded, Refused}
 use Rattle.frame.specs.Message.{Message, known, expected}
 use Rattle.frame.specs.Reading.{message}
-use Rattle.lists.specs.Choice.{first}
 use Rattle.engine.specs.declared.stop.Checked.{Checked}
 pub mod Laws
 pub mod Kinds
@@ -53,13 +50,3 @@ pub record Burst (n kind : ℕ) (ids : List ℕ) : Type 0 where
 pub record Ready (b : Base) (i : ℕ) : Type 0 where
   pub refusal : recordRefusal b ≡ 0
   pub here : i < b .n - 1
-
--- numbers 1 to 6 of an arrival
-unfoldable pub placeRefusal : Base → ℕ → ℕ → ℕ
-placeRefusal b link room = first (recordRefusal b) (first (linkRefusal (b .n) link) (outputRefusal room))
-
--- ---- the answer of a first message, behind the two frames of a start
-unfoldable pub behindStart : Outcome → Outcome
-behindStart (Accepted a b c) = Accepted (frameBytes 1) (frameBytes 1) a
-behindStart (Discarded a b c) = Discarded (frameBytes 1) (frameBytes 1) a
-behindStart (Refused r) = Refused r

@@ -1,13 +1,13 @@
 // An Announce: the identifier that the base at a link's end calls its own.
-use crate::say::accepted;
-use crate::say::discarded;
 use crate::say::say_one;
 use crate::stop::prime_check;
+use answers::accepted;
+use answers::discarded;
+use certified::certifies;
 use held::has_announce;
 use held::is_full;
 use protocol::Base;
 use protocol::Step;
-use tally::certified::certifies;
 ghost use Prim.Native.Nat.{_≤_};
 ghost use mathlib.Core.Path.{_≡_};
 ghost use lib.ListN.{length};

@@ -1,44 +1,23 @@
 // The arrival call.
 use crate::begin::begin;
-use crate::begin::behind_start;
 use crate::message::on_message;
-use crate::say::discarded;
-use crate::say::refused;
+use answers::behind_start;
+use answers::discarded;
+use answers::refused;
 use limits::MOST_BASES;
-use limits::OUTPUT_ROOM;
 use protocol::Base;
 use protocol::Step;
 use reader::Reading;
 use reader::body;
 use reader::identifiers;
 use reader::read;
-use soundness::refusals::record_refusal;
+use soundness::refusals::place_refusal;
 ghost use Prim.Native.Nat.{_≤_};
 ghost use mathlib.Core.Path.{_≡_};
 ghost use lib.ListN.{length};
 ghost use Rattle.limits.specs.Limits.{outputRoom};
 ghost use Rattle.protocol.specs.Steps.{arrival, arrivalStep, stepOf, outputOf};
-ghost use Rattle.engine.specs.Parts.{Burst, Ready, messageIn, placeRefusal};
-
-// Numbers 1 to 6, 0 for none.
-fn place_refusal(base: Base, link: usize, room: usize) -> u8
-    ensures { λ r. ⌜ r ≡ placeRefusal base link room ⌝ }
-{
-    let record = record_refusal(base);
-    if record != 0 {
-        return record;
-    }
-    if link < 1 {
-        return 5;
-    }
-    if (base.n as usize) <= link {
-        return 5;
-    }
-    if room < OUTPUT_ROOM {
-        return 6;
-    }
-    0
-}
+ghost use Rattle.engine.specs.Parts.{Burst, Ready, messageIn};
 
 // A message that was read, on the link at place i.
 fn step(base: Base, i: usize, kind: u8, ids: [u32; MOST_BASES], out: &mut [u8]) -> Step

@@ -1,7 +1,6 @@
 // The start of an idle base, alone and before its first message.
-use crate::say::accepted;
+use answers::accepted;
 use protocol::Base;
-use protocol::Outcome;
 use protocol::Step;
 use writer::put_two;
 ghost use Prim.Native.Nat.{_*_, _≤_};
@@ -9,7 +8,6 @@ ghost use mathlib.Core.Path.{_≡_};
 ghost use lib.ListN.{length};
 ghost use Rattle.limits.specs.Limits.{frameBytes};
 ghost use Rattle.protocol.specs.Steps.{begins, stepOf, outputOf};
-ghost use Rattle.engine.specs.Parts.{behindStart};
 
 pub(crate) fn begin(base: Base, out: &mut [u8]) -> Step
     requires { ⌜ 2 * frameBytes 1 ≤ length (now out) ⌝ }
@@ -20,31 +18,4 @@ pub(crate) fn begin(base: Base, out: &mut [u8]) -> Step
     let mut next = base;
     next.state = 1;
     accepted(next, two.front, two.next)
-}
-
-// The answer of a first message, behind the two frames of the start.
-pub(crate) fn behind_start(outcome: Outcome) -> Outcome
-    ensures { λ r. ⌜ r ≡ behindStart outcome ⌝ }
-{
-    match outcome {
-        Outcome::Accepted {
-            first,
-            second: _,
-            third: _,
-        } => Outcome::Accepted {
-            first: 8,
-            second: 8,
-            third: first,
-        },
-        Outcome::Discarded {
-            first,
-            second: _,
-            third: _,
-        } => Outcome::Discarded {
-            first: 8,
-            second: 8,
-            third: first,
-        },
-        Outcome::Refused(number) => Outcome::Refused(number),
-    }
 }

@@ -1,8 +1,8 @@
 // A Correct-Final: the list with which the base at a link's end has stopped.
-use crate::say::accepted;
-use crate::say::discarded;
 use crate::say::say_list;
 use crate::stop::secondary_check;
+use answers::accepted;
+use answers::discarded;
 use checks::is_vote;
 use limits::MOST_BASES;
 use protocol::Base;
@@ -11,7 +11,7 @@ ghost use Prim.Native.Nat.{_≤_};
 ghost use mathlib.Core.Path.{_≡_};
 ghost use lib.ListN.{length, take};
 ghost use Rattle.limits.specs.Limits.{mostBases};
-ghost use Rattle.protocol.specs.Steps.{onCorrectFinal, vote, secondaryCheck, encodeAll, stepOf, outputOf};
+ghost use Rattle.protocol.specs.Steps.{onCorrectFinal, vote, encodeAll, stepOf, outputOf};
 ghost use Rattle.engine.specs.Parts.{Holds, Place, voteAndCheck};
 
 // The vote and the secondary check on the first n identifiers of v, once they are held.

@@ -1,9 +1,9 @@
 // A message that arrives at a running base, by its kind.
 use crate::announce::on_announce;
 use crate::correct_final::on_correct_final;
-use crate::say::discarded;
 use crate::verify::on_verify;
 use crate::verify_final::on_verify_final;
+use answers::discarded;
 use limits::MOST_BASES;
 use protocol::Base;
 use protocol::Step;

@@ -1,7 +1,7 @@
 // A Verify: an identifier that the base at a link's end has certified.
-use crate::say::accepted;
-use crate::say::discarded;
 use crate::stop::prime_check;
+use answers::accepted;
+use answers::discarded;
 use held::holds_verify;
 use held::is_full;
 use protocol::Base;

@@ -1,7 +1,7 @@
 // A Verify-Final: the list for which the base at a link's end has voted.
-use crate::say::accepted;
-use crate::say::discarded;
 use crate::stop::secondary_check;
+use answers::accepted;
+use answers::discarded;
 use limits::MOST_BASES;
 use protocol::Base;
 use protocol::Step;

@@ -10,6 +10,7 @@ ghost use Rattle.protocol.specs.Sound.{idleBase};
 ghost use Rattle.soundness.specs.Made.{madeOf};
 
 // A record, beside the number by which it is turned down, 0 for none; it is then that of no base.
+#[repr(C)]
 pub struct Made {
     pub refusal: u8,
     pub base: Base,

@@ -2,11 +2,11 @@
 use crate::link::link_empty;
 use crate::link::list_sound;
 use crate::link::place_sound;
+use certified::certified_ids;
 use limits::MOST_LINKS;
+use lists::differ;
 use lists::zero_behind;
 use protocol::Base;
-use tally::certified::announced_below;
-use tally::link_count;
 ghost use mathlib.Core.Path.{_≡_};
 ghost use Rattle.protocol.specs.Sound.{linksSound, linksEmpty, announcesSound, finalSound, idleSound, sound};
 
@@ -44,22 +44,8 @@ fn links_empty(base: Base) -> bool
 fn announces_sound(base: Base) -> bool
     ensures { λ r. ⌜ r ≡ announcesSound base ⌝ }
 {
-    let k = link_count(base.n);
-    let own = base.own;
-    if announced_below(base, k, own) {
-        return false;
-    }
-    let mut i = k;
-    while 0 < i {
-        let j = i - 1;
-        let link = base.links[j];
-        let g = link.announce;
-        if announced_below(base, j, g) {
-            return false;
-        }
-        i = j;
-    }
-    true
+    let list = certified_ids(base);
+    differ(&list.ids, list.count)
 }
 
 fn final_sound(base: Base) -> bool

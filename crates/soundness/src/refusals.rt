@@ -1,9 +1,13 @@
-// Numbers 1 to 4.
+// Numbers 1 to 6, in checking order. Each call makes the checks whose data it takes.
 use crate::record::is_sound;
+use limits::OUTPUT_ROOM;
 use limits::net_refusal;
 use protocol::Base;
 ghost use mathlib.Core.Path.{_≡_};
+ghost use Rattle.lists.specs.Choice.{first};
 ghost use Rattle.protocol.specs.Sound.{settingRefusal, recordRefusal};
+ghost use Rattle.protocol.specs.Steps.{outputRefusal};
+ghost use Rattle.soundness.specs.Place.{placeRefusal};
 
 // Numbers 1 to 3, 0 for none.
 pub fn setting_refusal(n: usize, t: usize, own: u32) -> u8
@@ -32,6 +36,40 @@ pub fn record_refusal(base: Base) -> u8
     }
     if !is_sound(base) {
         return 4;
+    }
+    0
+}
+
+// Numbers 1 to 4 and 6 of a start, 0 for none.
+pub fn start_refusal(base: Base, room: usize) -> u8
+    ensures { λ r. ⌜ r ≡ first (recordRefusal base) (outputRefusal room) ⌝ }
+{
+    let record = record_refusal(base);
+    if record != 0 {
+        return record;
+    }
+    if OUTPUT_ROOM <= room {
+        return 0;
+    }
+    6
+}
+
+// Numbers 1 to 6 of an arrival, 0 for none.
+pub fn place_refusal(base: Base, link: usize, room: usize) -> u8
+    ensures { λ r. ⌜ r ≡ placeRefusal base link room ⌝ }
+{
+    let record = record_refusal(base);
+    if record != 0 {
+        return record;
+    }
+    if link < 1 {
+        return 5;
+    }
+    if (base.n as usize) <= link {
+        return 5;
+    }
+    if room < OUTPUT_ROOM {
+        return 6;
     }
     0
 }

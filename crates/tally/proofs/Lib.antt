@@ -1,1 +1,2 @@
-pub mod Announced
+pub mod Pairs
+pub mod Swap

@@ -1,30 +1,31 @@
 // Suspect pairs of certified identifiers.
-use crate::link_count;
+use certified::link_count;
 use counting::one;
 use held::has_announce;
 use held::holds_verify;
-use limits::MOST_LINKS;
+use lists::holds;
 use protocol::Base;
 use protocol::Link;
-ghost use Prim.Native.Nat.{_<_, _≤_};
+ghost use Prim.Native.Nat.{_≤_};
 ghost use mathlib.Core.Path.{_≡_};
 ghost use Rattle.limits.specs.Limits.{mostLinks};
-ghost use Rattle.counting.specs.Sums.{bit, sum};
-ghost use Rattle.protocol.specs.Record.{linkAt, links, suspectPair, suspectOwn, suspects};
+ghost use Rattle.protocol.specs.Record.{links, suspectPair, suspectOwn, suspects};
 
 fn suspect_pair(a: Link, b: Link) -> bool
     ensures { λ r. ⌜ r ≡ suspectPair a b ⌝ }
 {
-    if !has_announce(a) {
+    let g = a.announce;
+    let h = b.announce;
+    if g == 0 {
         return false;
     }
-    if !has_announce(b) {
+    if h == 0 {
         return false;
     }
-    if !holds_verify(a, b.announce) {
+    if !holds(&a.verifies, 0, a.verify_count as usize, h) {
         return true;
     }
-    !holds_verify(b, a.announce)
+    !holds(&b.verifies, 0, b.verify_count as usize, g)
 }
 
 fn suspect_own(own: u32, link: Link) -> bool
@@ -34,22 +35,6 @@ fn suspect_own(own: u32, link: Link) -> bool
         return !holds_verify(link, own);
     }
     false
-}
-
-// The suspect pairs of the link at place i with those before it.
-fn suspects_before(base: Base, i: usize) -> usize
-    requires { ⌜ i < mostLinks ⌝ }
-    ensures { λ r. ⌜ (r ≡ sum i (λ j. bit (suspectPair (linkAt base i) (linkAt base j)))) × (r ≤ mostLinks) ⌝ }
-{
-    let link = base.links[i];
-    let mut count: usize = 0;
-    let mut j: usize = 0;
-    while j < i {
-        let other = base.links[j];
-        count += one(suspect_pair(link, other));
-        j += 1;
-    }
-    count
 }
 
 // The suspect pairs with the own identifier: only the other's link is looked at.
@@ -75,7 +60,13 @@ pub fn suspect_count(base: Base) -> usize
     let mut count = own_suspects(base);
     let mut i: usize = 0;
     while i < k {
-        count += suspects_before(base, i);
+        let link = base.links[i];
+        let mut j: usize = 0;
+        while j < i {
+            let other = base.links[j];
+            count += one(suspect_pair(link, other));
+            j += 1;
+        }
         i += 1;
     }
     count

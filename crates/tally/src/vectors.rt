@@ -1,5 +1,5 @@
 // The tally of a list, and the links that hold it as Correct-Final.
-use crate::link_count;
+use certified::link_count;
 use counting::one;
 use held::holds_list;
 use held::holds_vector;

@@ -1,16 +1,20 @@
 // The tally of an identifier, and the sum of the certified ones' tallies.
-use crate::certified::certifies;
-use crate::link_count;
+use certified::certified_ids;
+use certified::certifies;
+use certified::link_count;
 use counting::one;
-use held::has_announce;
 use held::holds_verify;
+use limits::MOST_BASES;
+use lists::holds;
 use protocol::Base;
 use protocol::Link;
 ghost use Prim.Native.Nat.{_*_, _≤_};
 ghost use mathlib.Core.Path.{_≡_};
+ghost use lib.ListN.{take};
 ghost use Rattle.limits.specs.Limits.{mostBases, mostLinks};
-ghost use Rattle.lists.specs.Choice.{choose};
-ghost use Rattle.protocol.specs.Links.{announces, holdsVerify};
+ghost use Rattle.lists.specs.Lists.{sumOver};
+ghost use Rattle.counting.specs.Sums.{bit};
+ghost use Rattle.protocol.specs.Links.{holdsVerify};
 ghost use Rattle.protocol.specs.Record.{links, tally, tallySum};
 
 // The number of links that hold Verify g.
@@ -34,25 +38,34 @@ pub fn tally_of(base: Base, g: u32) -> usize
     verify_links(base, g) + one(certifies(base, g))
 }
 
-// The tally of the identifier announced at a link, zero where there is none.
-fn announced_tally(base: Base, link: Link) -> usize
-    ensures { λ r. ⌜ (r ≡ choose (announces link) (tally base (link .announce)) 0) × (r ≤ mostBases) ⌝ }
+// How many of the first count identifiers a link holds as Verify.
+fn verified_of(link: Link, ids: [u32; MOST_BASES], count: usize) -> usize
+    requires { ⌜ count ≤ mostBases ⌝ }
+    ensures { λ r. ⌜ (r ≡ sumOver (take count ids) (λ g. bit (holdsVerify link g))) × (r ≤ count) ⌝ }
 {
-    if has_announce(link) {
-        return tally_of(base, link.announce);
+    let held = link.verify_count as usize;
+    let mut sum: usize = 0;
+    let mut j = count;
+    while 0 < j {
+        j -= 1;
+        sum += one(holds(&link.verifies, 0, held, ids[j]));
     }
-    0
+    sum
 }
 
+// Each certified identifier counts once for being certified. Then the links are read, each once.
 pub fn tally_sum(base: Base) -> usize
     ensures { λ r. ⌜ (r ≡ tallySum base) × (r ≤ mostBases * mostBases) ⌝ }
 {
+    let list = certified_ids(base);
+    let ids = list.ids;
+    let count = list.count;
     let k = link_count(base.n);
-    let mut sum = tally_of(base, base.own);
+    let mut sum = count;
     let mut i: usize = 0;
     while i < k {
         let link = base.links[i];
-        sum += announced_tally(base, link);
+        sum += verified_of(link, ids, count);
         i += 1;
     }
     sum

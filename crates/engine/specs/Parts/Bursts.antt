@@ -23,7 +23,8 @@ use Rattle.protocol.specs.Sound.{recordRefusal}
 use Rattle.protocol.specs.Sound.Laws.{record-passed}
 use Rattle.protocol.specs.Steps.{refuses, linkRefusal, outputRefusal, arrivalRefusal, arrivalStep, arrival}
 use Rattle.protocol.specs.Steps.Refusals.{unless-passed, unless-refused, link-passed, output-passed}
-use Rattle.engine.specs.Parts.{Ready, Burst, placeRefusal, messageIn}
+use Rattle.soundness.specs.Place.{placeRefusal}
+use Rattle.engine.specs.Parts.{Ready, Burst, messageIn}
 
 -- ---- numbers 1 to 6, then 7 to 12
 arrival-number : (b : Base) (link : ℕ) (s : List ℕ) (room : ℕ) → arrivalRefusal b link s room ≡ first (placeRefusal b link room) (burstRefusal (b .n) s)

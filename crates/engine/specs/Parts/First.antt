@@ -19,7 +19,8 @@ use Rattle.protocol.specs.Sound.{idle}
 use Rattle.protocol.specs.Sound.Laws.{record-passed}
 use Rattle.protocol.specs.Steps.First.{idle-first}
 use Rattle.protocol.specs.Steps.Cases.{begun, afterStart}
-use Rattle.engine.specs.Parts.{Place, Ready, Burst, messageIn, behindStart}
+use Rattle.engine.specs.Parts.{Place, Ready, Burst, messageIn}
+use Rattle.answers.specs.Behind.{behindStart}
 
 -- ---- the message, at the base just started
 module _ (b next : Base) (i kind : ℕ) (ids : List ℕ) (e : next ≡ begun b) where

@@ -4,7 +4,7 @@ use borrow.Author.Needs.{needs}
 use lib.ListN.{length}
 use Rattle.engine.specs.Parts.Bursts.{place-down, place-passed, burst-down, burst-in, arrives}
 use Rattle.engine.specs.Parts.Laws.{does, refuses-output}
-use Rattle.engine.specs.Parts.{placeRefusal}
+use Rattle.soundness.specs.Place.{placeRefusal}
 use Rattle.reader.specs.Answers.{idArray}
 use Rattle.engine.proofs.arrival.arrive.Statement.{statement}
 use Rattle.engine.proofs.arrival.arrive.Tie as tie

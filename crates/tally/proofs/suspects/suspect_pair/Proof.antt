@@ -1,55 +1,51 @@
 -- `tally::suspects::suspect_pair` meets its contract: each return is the definition at the tests that led there.
-use mathlib.Core.Bool.{Bool, true, false, not}
-use mathlib.Core.Path.{_≡_, refl, sym, ap, _∙_}
-use borrow.Author.Tests.{not-true, not-false}
+use mathlib.Core.Path.{sym, _∙_}
+use borrow.Author.Tests.{eq-eqb, ne-eqb, not-true, not-false}
 use borrow.Author.Needs.{needs}
+use Rattle.tally.proofs.Pairs.{pair-lacks, pair-back}
 use Rattle.protocol.specs.Record.{suspectPair}
-use Rattle.lists.specs.Choice.{and, or}
+use Rattle.protocol.specs.Links.{announces, holdsVerify, verifiesOf}
+use Rattle.lists.specs.Choice.{and}
 use Rattle.tally.proofs.suspects.suspect_pair.Statement.{statement}
 use Rattle.tally.proofs.suspects.suspect_pair.Tie as tie
 
-and-no : (t : Bool) → and t false ≡ false
-unfolding and
-and-no true = refl
-and-no false = refl
-
-has-announce-requires : tie.Need-has-announce-requires
-has-announce-requires c κs = search needs
-
 returns : tie.Need-returns
-unfolding suspectPair and
-returns c = simp (sym (c .before .has-announce .ensures) ∙ not-true _ (c .if1 .taken))
-
-has-announce-requires-2 : tie.Need-has-announce-requires-2
-has-announce-requires-2 c κs = search needs
+unfolding suspectPair announces and
+returns c = simp (eq-eqb _ _ (c .if1 .taken))
 
 returns-2 : tie.Need-returns-2
-unfolding suspectPair and
-returns-2 c = simp (sym (c .before .before .before .has-announce .ensures) ∙ not-false _ (c .before .before .if1 .left), sym (c .before .has-announce2 .ensures) ∙ not-true _ (c .if2 .taken))
+unfolding suspectPair announces and
+returns-2 c = simp (ne-eqb _ _ (c .before .if1 .left), eq-eqb _ _ (c .if2 .taken))
 
-holds-verify-requires : tie.Need-holds-verify-requires
-holds-verify-requires c κs = search needs
+cast-holds : tie.Need-cast-holds
+cast-holds c = search needs
+
+holds-requires : tie.Need-holds-requires
+holds-requires c κs = search needs
 
 returns-3 : tie.Need-returns-3
-unfolding suspectPair and or
-returns-3 c = simp (sym (c .before .before .before .before .before .has-announce .ensures) ∙ not-false _ (c .before .before .before .before .if1 .left), sym (c .before .before .before .has-announce2 .ensures) ∙ not-false _ (c .before .before .if2 .left), sym (c .before .holds-verify .ensures) ∙ not-true _ (c .if3 .taken))
+unfolding holdsVerify verifiesOf
+returns-3 c = let a = c .before .before .before .before .before .before .before .args in pair-lacks (a .t1) (a .t2) (c .before .before .before .before .before .before .if1 .left) (c .before .before .before .before .before .if2 .left) (sym (c .before .holds .ensures) ∙ not-true _ (c .if3 .taken))
 
-holds-verify-requires-2 : tie.Need-holds-verify-requires-2
-holds-verify-requires-2 c κs = search needs
+cast-holds-2 : tie.Need-cast-holds-2
+cast-holds-2 c = search needs
+
+holds-requires-2 : tie.Need-holds-requires-2
+holds-requires-2 c κs = search needs
 
 returns-4 : tie.Need-returns-4
-unfolding suspectPair and or
-returns-4 c = ap not (c .holds-verify2 .ensures) ∙ simp (sym (c .before .before .before .before .before .before .has-announce .ensures) ∙ not-false _ (c .before .before .before .before .before .if1 .left), sym (c .before .before .before .before .has-announce2 .ensures) ∙ not-false _ (c .before .before .before .if2 .left), sym (c .before .before .holds-verify .ensures) ∙ not-false _ (c .before .if3 .left))
+unfolding holdsVerify verifiesOf
+returns-4 c = let a = c .before .before .before .before .before .before .before .before .before .before .before .args in pair-back (a .t1) (a .t2) (c .before .before .before .before .before .before .before .before .before .before .if1 .left) (c .before .before .before .before .before .before .before .before .before .if2 .left) (sym (c .before .before .before .before .before .holds .ensures) ∙ not-false _ (c .before .before .before .before .if3 .left)) (c .holds2 .ensures)
 
 pub suspect-pair-spec : {M : Type 1} → statement M
 suspect-pair-spec =
     tie.close
     (tie.spec
-    has-announce-requires
     returns
-    has-announce-requires-2
     returns-2
-    holds-verify-requires
+    cast-holds
+    holds-requires
     returns-3
-    holds-verify-requires-2
+    cast-holds-2
+    holds-requires-2
     returns-4)

@@ -1,0 +1,151 @@
+-- What a line that has its form tells: numbers within their ranges, bases of the net, and a next line that begins further on.
+use Prim.Native.Nat.{ℕ, _*_, _≤_, _<_}
+use mathlib.Core.Path.{_≡_, refl}
+use mathlib.Core.Bool.{true}
+use mathlib.Core.List.{List}
+use native.Mathlib.Omega.{arith}
+use borrow.Author.Tests.{leb-true, ltb-true}
+use lib.Dec.{eqb, ltb, leb}
+use lib.ListN.{length, drop}
+use Rattle.limits.specs.Limits.{longestBurst}
+use Rattle.lists.specs.Choice.{choose, and}
+use Rattle.lists.specs.Choice.Laws.{choose-ind, and-true}
+use Rattle.text.specs.declared.number.Number.{Number}
+use Rattle.text.specs.declared.number.Number.the-variants.{Value, Bad}
+use Rattle.text.specs.declared.word.Word.{Word}
+use Rattle.text.specs.declared.word.Word.the-variants.{Past, Other}
+use Rattle.text.specs.declared.hex.Hex.{Hex}
+use Rattle.text.specs.declared.hex.Hex.the-variants as hex
+use Rattle.text.specs.Number.{mostNumber, fieldAt}
+use Rattle.text.specs.Number.Range.{Field, field-within}
+use Rattle.text.specs.Word.{wordAt}
+use Rattle.text.specs.Word.Laws.{Behind, word-behind}
+use Rattle.text.specs.Hex.{hexAt}
+use Rattle.text.specs.Hex.Range.{Burst, hex-burst}
+use Rattle.lines.specs.declared.bases.Two.{Two}
+use Rattle.lines.specs.declared.bases.Two.the-variants.{Both, Neither}
+use Rattle.lines.specs.declared.event.Line.{Line}
+use Rattle.lines.specs.declared.event.Line.the-variants.{Start, Carry, Forge, Wrong}
+use Rattle.lines.specs.Lines.{
+  space,
+  lineFeed,
+  netWord,
+  idWord,
+  faultyWord,
+  startWord,
+  carryWord,
+  forgeWord,
+  afterNumber,
+  afterWord,
+  afterTwo,
+  afterHex,
+  twoAt,
+  isBase,
+  twoBases,
+  netLine,
+  idLine,
+  faultyLine,
+  startFields,
+  carryFields,
+  forgeFields,
+  eventLine,
+}
+
+-- ---- what holds of both ways of a reader
+pub number-ind : {A : Type 0} (P : A → Type 0) (x : Number) {none : A} {read : ℕ → ℕ → A} (Q : Number → Type 0) → Q x → P none → ((v p : ℕ) → Q (Value v p) → P (read v p)) → P (afterNumber x none read)
+number-ind P Bad Q q n r = n
+number-ind P (Value v p) Q q n r = r v p q
+
+pub word-ind : {A : Type 0} (P : A → Type 0) (x : Word) {none : A} {read : ℕ → A} (Q : Word → Type 0) → Q x → P none → ((p : ℕ) → Q (Past p) → P (read p)) → P (afterWord x none read)
+word-ind P Other Q q n r = n
+word-ind P (Past p) Q q n r = r p q
+
+pub two-ind : {A : Type 0} (P : A → Type 0) (x : Two) {none : A} {read : ℕ → ℕ → ℕ → A} (Q : Two → Type 0) → Q x → P none → ((a b p : ℕ) → Q (Both a b p) → P (read a b p)) → P (afterTwo x none read)
+two-ind P Neither Q q n r = n
+two-ind P (Both a b p) Q q n r = r a b p q
+
+pub hex-ind : {A : Type 0} (P : A → Type 0) (x : Hex) {none : A} {read : ℕ → ℕ → A} (Q : Hex → Type 0) → Q x → P none → ((k p : ℕ) → Q (hex.Bytes k p) → P (read k p)) → P (afterHex x none read)
+hex-ind P hex.Bad Q q n r = n
+hex-ind P (hex.Bytes k p) Q q n r = r k p q
+
+-- ---- two numbers
+abbrev pub TwoTold : ℕ → Two → Type 0
+TwoTold p Neither = Unit {0}
+TwoTold p (Both a b q) = (a ≤ mostNumber) × ((b ≤ mostNumber) × (p < q))
+
+two-told : (s : List ℕ) (p close : ℕ) → TwoTold p (twoAt s p close)
+unfolding twoAt
+two-told s p close =
+    number-ind (TwoTold p) (fieldAt s p space) (Field p) (field-within s p space) tt
+    (λ a q f. number-ind (TwoTold p) (fieldAt s q close) (Field q) (field-within s q close) tt (λ b r g. (f .0, (g .0, omega (arith, f .1, g .1)))))
+
+-- ---- the header's lines
+pub net-told : (s : List ℕ) (p : ℕ) → TwoTold p (netLine s p)
+unfolding netLine
+net-told s p =
+    word-ind (TwoTold p) (wordAt s p netWord) (Behind p) (word-behind s p netWord) tt (λ q w. further (twoAt s q lineFeed) q w (two-told s q lineFeed))
+  where
+    further : (x : Two) (q : ℕ) → p ≤ q → TwoTold q x → TwoTold p x
+    further Neither q w t = tt
+    further (Both a b r) q w t = (t .0, (t .1 .0, omega (arith, t .1 .1)))
+
+pub id-told : (base : ℕ) (s : List ℕ) (p : ℕ) → Field p (idLine base s p)
+unfolding idLine
+id-told base s p =
+    word-ind (Field p) (wordAt s p idWord) (Behind p) (word-behind s p idWord) tt
+    (λ q w. two-ind (Field p) (twoAt s q lineFeed) (TwoTold q) (two-told s q lineFeed) tt
+    (λ b v r t. choose-ind (Field p) (eqb b base) (λ _. (t .1 .0, omega (arith, w, t .1 .1))) (λ _. tt)))
+
+abbrev pub FaultyTold : ℕ → ℕ → Two → Type 0
+FaultyTold n p Neither = Unit {0}
+FaultyTold n p (Both a b q) = (isBase n a ≡ true) × ((isBase n b ≡ true) × ((a < b) × (p < q)))
+
+pub faulty-told : (n : ℕ) (s : List ℕ) (p : ℕ) → FaultyTold n p (faultyLine n s p)
+unfolding faultyLine
+faulty-told n s p =
+    word-ind (FaultyTold n p) (wordAt s p faultyWord) (Behind p) (word-behind s p faultyWord) tt
+    (λ q w. two-ind (FaultyTold n p) (twoAt s q lineFeed) (TwoTold q) (two-told s q lineFeed) tt
+    (λ a b r t. choose-ind (FaultyTold n p) (and (isBase n a) (and (isBase n b) (ltb a b)))
+    (λ e.
+    let x = and-true (isBase n a) (and (isBase n b) (ltb a b)) e in
+    let y = and-true (isBase n b) (ltb a b) (x .1) in
+    (x .0, (y .0, (ltb-true a b (y .1), omega (arith, w, t .1 .1)))))
+    (λ _. tt)))
+
+-- ---- the lines of events
+abbrev pub EventTold : ℕ → List ℕ → ℕ → Line → Type 0
+EventTold n s p (Start b q) = (isBase n b ≡ true) × (p < q)
+EventTold n s p (Carry a b k q) = (twoBases n a b ≡ true) × ((1 ≤ k) × (p < q))
+EventTold n s p (Forge a b at count q) = (twoBases n a b ≡ true) × ((count ≤ longestBurst) × ((2 * count ≤ length (drop at s)) × (p < q)))
+EventTold n s p Wrong = Unit {0}
+
+start-told : (n : ℕ) (s : List ℕ) (p q : ℕ) → p ≤ q → EventTold n s p (startFields n s q)
+unfolding startFields
+start-told n s p q w =
+    number-ind (EventTold n s p) (fieldAt s q lineFeed) (Field q) (field-within s q lineFeed) tt
+    (λ b r f. choose-ind (EventTold n s p) (isBase n b) (λ e. (e, omega (arith, f .1))) (λ _. tt))
+
+carry-told : (n : ℕ) (s : List ℕ) (p q : ℕ) → p ≤ q → EventTold n s p (carryFields n s q)
+unfolding carryFields
+carry-told n s p q w =
+    two-ind (EventTold n s p) (twoAt s q space) (TwoTold q) (two-told s q space) tt
+    (λ a b r t. number-ind (EventTold n s p) (fieldAt s r lineFeed) (Field r) (field-within s r lineFeed) tt
+    (λ k x f. choose-ind (EventTold n s p) (and (leb 1 k) (twoBases n a b))
+    (λ e. let y = and-true (leb 1 k) (twoBases n a b) e in (y .1, (leb-true 1 k (y .0), omega (arith, t .1 .1, f .1))))
+    (λ _. tt)))
+
+forge-told : (n : ℕ) (s : List ℕ) (p q : ℕ) → p ≤ q → EventTold n s p (forgeFields n s q)
+unfolding forgeFields
+forge-told n s p q w =
+    two-ind (EventTold n s p) (twoAt s q space) (TwoTold q) (two-told s q space) tt
+    (λ a b r t. hex-ind (EventTold n s p) (hexAt s r) (Burst s r) (hex-burst s r) tt
+    (λ k x f. choose-ind (EventTold n s p) (twoBases n a b) (λ e. (e, (f .1 .0, (f .1 .1, omega (arith, t .1 .1, f .0))))) (λ _. tt)))
+
+pub event-told : (n : ℕ) (s : List ℕ) (p : ℕ) → EventTold n s p (eventLine n s p)
+unfolding eventLine
+event-told n s p =
+    word-ind (EventTold n s p) (wordAt s p startWord) (Behind p) (word-behind s p startWord)
+    (word-ind (EventTold n s p) (wordAt s p carryWord) (Behind p) (word-behind s p carryWord)
+    (word-ind (EventTold n s p) (wordAt s p forgeWord) (Behind p) (word-behind s p forgeWord) tt (λ q w. forge-told n s p q w))
+    (λ q w. carry-told n s p q w))
+    (λ q w. start-told n s p q w)

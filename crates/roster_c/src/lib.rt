@@ -1,0 +1,72 @@
+// The calls as C sees them (include/roster.h): records lent by pointer, slices as pointer and length, answers as numbers.
+use limits::MOST_BASES;
+use numbers::Answer;
+use numbers::Named;
+use numbers::Put;
+use numbers::Taken;
+use numbers::leader_numbers;
+use numbers::outcome_numbers;
+use numbers::read_numbers;
+use numbers::written_numbers;
+use protocol::Base;
+use soundness::idle::Made;
+ghost use mathlib.Core.Path.{_≡_};
+ghost use lib.ListN.{length};
+ghost use Rattle.writer.specs.Writing.{writtenOf, writeOutput};
+ghost use Rattle.reader.specs.Answers.{readingOf, stretch, idArray};
+ghost use Rattle.protocol.specs.Steps.{arrival, start, stepOf, outputOf, leaderAnswer};
+ghost use Rattle.soundness.specs.Made.{madeOf};
+ghost use Rattle.numbers.specs.Numbers.{outcomeNumbers, leaderNumbers, writtenNumbers, readNumbers};
+
+// An idle record from n, t and the own identifier. Turned down by 1 to 3.
+#[no_mangle]
+pub extern "C" fn roster_idle(n: usize, t: usize, own: u32) -> Made
+    ensures { λ r. ⌜ r ≡ madeOf n t own ⌝ }
+{
+    soundness::idle::make_idle(n, t, own)
+}
+
+// Starts an idle base. Turned down by 1 to 4 and 6.
+#[no_mangle]
+pub extern "C" fn roster_start(base: &mut Base, out: &mut [u8]) -> Answer
+    ensures { λ r. ⌜ (r ≡ outcomeNumbers (stepOf (start (now (base .entry)) (length (now (out .entry)))) .outcome)) × ((now (base .exit) ≡ stepOf (start (now (base .entry)) (length (now (out .entry)))) .base) × (now (out .exit) ≡ outputOf (start (now (base .entry)) (length (now (out .entry)))) (now (out .entry)))) ⌝ }
+{
+    outcome_numbers(entry::start(base, out))
+}
+
+// A burst arrives on a link, 1 to n - 1. Turned down by 1 to 12.
+#[no_mangle]
+pub extern "C" fn roster_arrive(
+    base: &mut Base,
+    link: usize,
+    burst: &[u8],
+    out: &mut [u8],
+) -> Answer
+    ensures { λ r. ⌜ (r ≡ outcomeNumbers (stepOf (arrival (now (base .entry)) link (now (burst .entry)) (length (now (out .entry)))) .outcome)) × ((now (base .exit) ≡ stepOf (arrival (now (base .entry)) link (now (burst .entry)) (length (now (out .entry)))) .base) × (now (out .exit) ≡ outputOf (arrival (now (base .entry)) link (now (burst .entry)) (length (now (out .entry)))) (now (out .entry)))) ⌝ }
+{
+    outcome_numbers(entry::arrive(base, link, burst, out))
+}
+
+// The leader that a stopped base names. Turned down by 1 to 4.
+#[no_mangle]
+pub extern "C" fn roster_leader(base: &mut Base) -> Named
+    ensures { λ r. ⌜ (r ≡ leaderNumbers (leaderAnswer (now (base .entry)))) × (now (base .exit) ≡ now (base .entry)) ⌝ }
+{
+    leader_numbers(entry::leader(base))
+}
+
+// The message of a burst. Turned down by 1 and 7 to 12.
+#[no_mangle]
+pub extern "C" fn roster_read(n: usize, burst: &[u8]) -> Taken
+    ensures { λ r. ⌜ r ≡ readNumbers (readingOf n (now (burst .entry))) (idArray (stretch n (now (burst .entry)))) ⌝ }
+{
+    read_numbers(n, burst)
+}
+
+// The frame of a message. Turned down by 1, 6, 8, 9, 11 and 12.
+#[no_mangle]
+pub extern "C" fn roster_write(n: usize, kind: u8, ids: &[u32], out: &mut [u8]) -> Put
+    ensures { λ r. ⌜ (r ≡ writtenNumbers (writtenOf n kind (now (ids .entry)) (length (now (out .entry))))) × (now (out .exit) ≡ writeOutput n kind (now (ids .entry)) (now (out .entry))) ⌝ }
+{
+    written_numbers(writer::write(n, kind, ids, out))
+}

@@ -1,0 +1,4 @@
+pub mod Header
+pub mod Story
+pub mod Report
+pub mod Theorem

@@ -1,0 +1,1 @@
+// What a schedule means: definitions and theorems over the net of `protocol`; no code.

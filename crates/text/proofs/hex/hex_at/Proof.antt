@@ -1,0 +1,33 @@
+-- `text::hex::hex_at` meets its contract: what the walk over the pairs answers, and the limit of a burst.
+use mathlib.Core.Path.{refl, sym, _∙_}
+use borrow.Author.Tests.{lt-ltb, le-ltb}
+use Rattle.lists.specs.Choice.Laws.{chosen-yes, chosen-no}
+use Rattle.text.specs.Hex.{hexAt, atMostBurst}
+use borrow.Author.Needs.{needs}
+use Rattle.text.proofs.hex.hex_at.Statement.{statement}
+use Rattle.text.proofs.hex.hex_at.Tie as tie
+
+hex-from-requires : tie.Need-hex-from-requires
+hex-from-requires c κs = search needs
+
+enum-known-count : tie.Need-enum-known-count
+enum-known-count c = search needs
+
+enum-told : tie.Need-enum-told
+enum-told c = search needs
+
+returns : tie.Need-returns
+unfolding hexAt atMostBurst
+returns c = rw (sym (c .before .before .hex-from .ensures) ∙ c .enum-told .given .1)
+
+returns-2 : tie.Need-returns-2
+unfolding hexAt atMostBurst
+returns-2 c = rw (sym (c .before .before .before .before .hex-from .ensures) ∙ c .before .before .count .given .1) (chosen-yes _ (lt-ltb _ _ (c .if1 .taken)) refl)
+
+returns-3 : tie.Need-returns-3
+unfolding hexAt atMostBurst
+returns-3 c = rw (sym (c .before .before .before .before .hex-from .ensures) ∙ c .before .before .count .given .1) (chosen-no _ (le-ltb _ _ (c .if1 .left)) refl)
+
+pub hex-at-spec : {M : Type 1} → statement M
+hex-at-spec =
+    tie.close (tie.spec hex-from-requires enum-known-count enum-told returns returns-2 returns-3)

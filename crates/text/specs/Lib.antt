@@ -1,0 +1,4 @@
+pub mod Rest
+pub mod Number
+pub mod Word
+pub mod Hex

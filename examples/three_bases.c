@@ -1,0 +1,68 @@
+/* Three bases in one process agree over an in-memory link. Build: see examples/build. */
+#include "roster.h"
+#include <stdio.h>
+#include <string.h>
+
+#define BASES 3
+
+/* Every frame that was broadcast, in the order written. */
+struct sent {
+    int from;
+    size_t length;
+    uint8_t bytes[ROSTER_LONGEST_FRAME];
+};
+static struct sent air[BASES * (BASES + 3)];
+static int count;
+
+static void broadcast(int from, const uint8_t *out, size_t length)
+{
+    if (length == 0)
+        return;
+    air[count].from = from;
+    air[count].length = length;
+    memcpy(air[count].bytes, out, length);
+    count++;
+}
+
+static int keep(int from, const uint8_t *out, roster_answer answer)
+{
+    if (answer.outcome == ROSTER_REFUSED) {
+        fprintf(stderr, "base %d: turned down by %d\n", from, answer.refusal);
+        return 1;
+    }
+    broadcast(from, out, answer.first);
+    broadcast(from, out + answer.first, answer.second);
+    broadcast(from, out + answer.first + answer.second, answer.third);
+    return 0;
+}
+
+int main(void)
+{
+    static const uint32_t own[BASES] = {500, 300, 400};
+    roster_base base[BASES];
+    uint8_t out[ROSTER_OUTPUT_ROOM];
+
+    for (int b = 0; b < BASES; b++) {
+        roster_made made = roster_idle(BASES, 0, own[b]);
+        if (made.refusal != 0)
+            return 1;
+        base[b] = made.base;
+        if (keep(b + 1, out, roster_start(&base[b], out, sizeof out)))
+            return 1;
+    }
+    /* A base's link to base a is a where a is below the base's own number, else a - 1. */
+    for (int k = 0; k < count; k++)
+        for (int b = 1; b <= BASES; b++)
+            if (b != air[k].from) {
+                size_t link = air[k].from < b ? air[k].from : air[k].from - 1;
+                if (keep(b, out, roster_arrive(&base[b - 1], link, air[k].bytes, air[k].length, out, sizeof out)))
+                    return 1;
+            }
+    for (int b = 0; b < BASES; b++) {
+        printf("base %d", b + 1);
+        for (int i = 0; i < BASES; i++)
+            printf(" %u", (unsigned)base[b].final_list[i]);
+        printf(" leader %u\n", (unsigned)roster_leader(&base[b]).leader);
+    }
+    return 0;
+}

@@ -1,0 +1,119 @@
+/* A roster agreed by bases over faulty links: one base's engine, its frames, and the replay of a whole net.
+ *
+ * Link with libroster_c.a (rt staticlib roster_c writes it to target/staticlib/). x86-64, no other library, no heap, no state of its own:
+ * a call reads and writes what it is lent and nothing else. Different records may be used by different threads at the same time.
+ *
+ * No caller has to test anything first. What is not fit is turned down by its number, and a call that is turned down changes nothing. A pointer
+ * has to be valid for the length given with it, and what is lent to one call must not overlap.
+ *
+ *  1  n is not 2 to 16                        7  the burst is shorter than 8 or longer than 132 bytes
+ *  2  t is above (n - 2) / 2                  8  the kind is not 1 to 4
+ *  3  the own identifier is zero              9  the count is not 1 for kinds 1 and 2, or not n for 3 and 4
+ *  4  the record is not sound                10  the back distance is not 4 * count + 4, or exceeds the burst
+ *  5  the link number is not 1 to n - 1      11  an identifier in the body is zero
+ *  6  the output is shorter than 136 bytes   12  a list is not strictly ascending
+ */
+#ifndef ROSTER_H
+#define ROSTER_H
+
+#include <stddef.h>
+#include <stdint.h>
+
+#ifdef __cplusplus
+extern "C" {
+#endif
+
+#define ROSTER_MOST_BASES 16
+#define ROSTER_MOST_LINKS 15
+#define ROSTER_LIST_ROOM 17    /* Verify identifiers that a link has room for */
+#define ROSTER_OUTPUT_ROOM 136 /* bytes to lend to roster_start and roster_arrive */
+#define ROSTER_LONGEST_BURST 132
+#define ROSTER_LONGEST_FRAME 68
+
+enum roster_state { ROSTER_IDLE, ROSTER_RUNNING, ROSTER_PRIME, ROSTER_SECONDARY };
+enum roster_kind { ROSTER_ANNOUNCE = 1, ROSTER_VERIFY, ROSTER_CORRECT_FINAL, ROSTER_VERIFY_FINAL };
+
+/* What is held of one link. Places that are not in use are zero. */
+typedef struct roster_link {
+    uint32_t announce;                   /* the Announce identifier, or zero */
+    uint32_t verifies[ROSTER_LIST_ROOM]; /* the Verify identifiers, in order of acceptance */
+    uint32_t list[ROSTER_MOST_BASES];    /* the list of the vector message held */
+    uint8_t verify_count;
+    uint8_t held;                        /* its kind, 3 or 4, or zero for none */
+} roster_link;
+
+/* A base's record. Keep it as a call left it; read any field, write none. */
+typedef struct roster_base {
+    uint8_t n;
+    uint8_t t;
+    uint8_t state; /* enum roster_state */
+    uint8_t sent;  /* whether a Verify-Final was sent */
+    uint32_t own;
+    uint32_t final_list[ROSTER_MOST_BASES]; /* n identifiers, ascending, once the base has stopped; else zero */
+    roster_link links[ROSTER_MOST_LINKS];   /* link k at place k - 1 */
+} roster_base;
+
+typedef struct roster_made {
+    uint8_t refusal;  /* or zero */
+    roster_base base; /* all zero where the call was turned down */
+} roster_made;
+
+enum roster_outcome { ROSTER_REFUSED, ROSTER_ACCEPTED, ROSTER_DISCARDED };
+
+/* The frames broadcast stand one after another at the front of the output; a length is zero for none. */
+typedef struct roster_answer {
+    uint8_t outcome; /* enum roster_outcome */
+    uint8_t refusal; /* or zero */
+    size_t first;
+    size_t second;
+    size_t third;
+} roster_answer;
+
+enum roster_leading { ROSTER_LEADER_REFUSED, ROSTER_LEADER_NAMED, ROSTER_NOT_STOPPED };
+
+typedef struct roster_named {
+    uint8_t outcome; /* enum roster_leading */
+    uint8_t refusal; /* or zero */
+    uint32_t leader; /* or zero */
+} roster_named;
+
+/* The body is the 4 * count bytes of the burst from start on. */
+typedef struct roster_taken {
+    uint8_t refusal; /* or zero */
+    uint8_t kind;
+    size_t count;
+    size_t start;
+    uint32_t ids[ROSTER_MOST_BASES]; /* the count identifiers, zeros behind */
+} roster_taken;
+
+typedef struct roster_put {
+    uint8_t refusal; /* or zero */
+    size_t length;   /* of the frame; zero where the call was turned down */
+} roster_put;
+
+/* An idle record. Turned down by 1 to 3. */
+roster_made roster_idle(size_t n, size_t t, uint32_t own);
+
+/* Starts an idle base: Announce and Verify of its own identifier are broadcast. At any other state discarded. Turned down by 1 to 4 and 6.
+ * Touches the record and the frames' bytes at the front of the output. */
+roster_answer roster_start(roster_base *base, uint8_t *out, size_t out_length);
+
+/* A burst arrives on a link, 1 to n - 1: link k of base b goes to base k if k < b, else to base k + 1. Turned down by 1 to 12.
+ * Touches the record and the frames' bytes at the front of the output. Send each frame broadcast on every link. */
+roster_answer roster_arrive(roster_base *base, size_t link, const uint8_t *burst, size_t burst_length, uint8_t *out, size_t out_length);
+
+/* The leader that a stopped base names. Turned down by 1 to 4. Touches nothing. */
+roster_named roster_leader(roster_base *base);
+
+/* The message of a burst in a net of n; what stands before the frame is skipped. Turned down by 1 and 7 to 12. */
+roster_taken roster_read(size_t n, const uint8_t *burst, size_t burst_length);
+
+/* The frame of a message in a net of n. Turned down by 1, 6 (the output is shorter than the frame), 8, 9, 11 and 12.
+ * Touches the frame's bytes at the front of the output. */
+roster_put roster_write(size_t n, uint8_t kind, const uint32_t *ids, size_t id_count, uint8_t *out, size_t out_length);
+
+#ifdef __cplusplus
+}
+#endif
+
+#endif

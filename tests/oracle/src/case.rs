@@ -1,0 +1,134 @@
+//! One thing to try: a call with all that it takes, a schedule, or a whole history. Running it compares an engine with the model.
+
+use crate::compared::Compared;
+use crate::demand;
+use crate::engine::{Answer, Engine, Reading};
+use crate::faults::Fault;
+use crate::limits::{LONGEST_SCHEDULE, REPORT_ROOM};
+use crate::net::{History, Net};
+use crate::reach::Reach;
+use crate::reader::Number;
+use crate::record::RawBase;
+use crate::schedule::render;
+
+/// `expect` is the number that the case was made for, known without the model.
+#[derive(Clone, Debug)]
+pub enum Case {
+    Idle { n: usize, t: usize, own: u32, record: RawBase, expect: Option<Number> },
+    Start { record: RawBase, out: Vec<u8>, expect: Option<Number> },
+    Arrive { record: RawBase, link: usize, burst: Vec<u8>, out: Vec<u8>, expect: Option<Number> },
+    Leader { record: RawBase, expect: Option<Number> },
+    Read { n: usize, burst: Vec<u8>, expect: Option<Number> },
+    Write { n: usize, kind: u8, ids: Vec<u32>, out: Vec<u8> },
+    Replay { schedule: Vec<u8>, out: Vec<u8>, expect: Option<String> },
+    History(History),
+}
+
+impl Case {
+    pub fn kind(&self) -> &'static str {
+        match self {
+            Case::Idle { .. } => "idle records made",
+            Case::Start { .. } => "starts",
+            Case::Arrive { .. } => "arrivals",
+            Case::Leader { .. } => "leaders",
+            Case::Read { .. } => "bursts read",
+            Case::Write { .. } => "frames written",
+            Case::Replay { .. } => "schedules",
+            Case::History(_) => "histories",
+        }
+    }
+
+    /// The first difference between the engine and the model, if there is one.
+    pub fn run(&self, engine: &mut dyn Engine, reach: &mut Reach) -> Option<String> {
+        let mut both = Compared::new(engine);
+        match self {
+            Case::Idle { n, t, own, record, expect } => {
+                let number = both.idle(*n, *t, *own, &mut record.clone());
+                expected(&mut both, *expect, number);
+            }
+            Case::Start { record, out, expect } => {
+                let answer = both.start(&mut record.clone(), &mut out.clone());
+                expected(&mut both, *expect, number_of(answer));
+            }
+            Case::Arrive { record, link, burst, out, expect } => {
+                let answer = both.arrive(&mut record.clone(), *link, burst, &mut out.clone());
+                expected(&mut both, *expect, number_of(answer));
+            }
+            Case::Leader { record, expect } => {
+                let number = if let crate::engine::Leader::Refused(number) = both.leader(record) { number } else { 0 };
+                expected(&mut both, *expect, number);
+            }
+            Case::Read { n, burst, expect } => {
+                let number = if let Reading::Refused(number) = both.read(*n, burst) { number } else { 0 };
+                expected(&mut both, *expect, number);
+            }
+            Case::Write { n, kind, ids, out } => {
+                let _ = both.write(*n, *kind, ids, &mut out.clone());
+            }
+            Case::Replay { schedule, out, expect } => run_schedule(&mut both, schedule, out, expect.as_deref()),
+            Case::History(history) => run_history(&mut both, history, reach),
+        }
+        both.difference
+    }
+}
+
+fn number_of(answer: Answer) -> Number {
+    if let Answer::Refused(number) = answer {
+        number
+    } else {
+        0
+    }
+}
+
+fn expected(both: &mut Compared, expect: Option<Number>, number: Number) {
+    if let Some(expect) = expect.filter(|&expect| expect != number) {
+        both.note(format!("the case was made for number {expect}, the model answers {number}"));
+    }
+}
+
+fn run_schedule(both: &mut Compared, schedule: &[u8], out: &[u8], expect: Option<&str>) {
+    let mut out = out.to_vec();
+    let length = both.replay(schedule, &mut out);
+    let report = String::from_utf8_lossy(&out[..length]).into_owned();
+    if let Some(expect) = expect.filter(|&expect| expect != report) {
+        both.note(format!("the schedule was made for the report {expect:?}, the model prints {report:?}"));
+    }
+}
+
+/// Every event on both, demand 3 after each, then the same history as a schedule.
+fn run_history(both: &mut Compared, history: &History, reach: &mut Reach) {
+    let truth = history.setting.truth();
+    let mut net = Net::new(history.setting.clone(), both, Fault::None);
+    let mut happened = Vec::new();
+    for (event, room) in &history.events {
+        let at = event.receiver();
+        let before = net.records[at - 1];
+        if net.turned_down(event).is_some() {
+            continue;
+        }
+        let answer = net.happen(event, *room, both);
+        happened.push((event.clone(), *room));
+        reach.observe(&before, &net.records[at - 1], answer, &truth);
+        if both.difference.is_some() {
+            return;
+        }
+        if net.records[at - 1].state >= 2 && before.state < 2 {
+            both.leader(&net.records[at - 1]);
+            hold_to_demand(both, demand::broken(&net));
+        }
+    }
+    hold_to_demand(both, demand::broken(&net).or_else(|| demand::unreadable(&net)));
+    if net.waiting() == 0 && (1..=net.setting.n()).all(|b| net.stopped(b)) {
+        reach.add("all stopped, nothing waits");
+    }
+    let schedule = render(&History { setting: history.setting.clone(), events: happened });
+    if schedule.len() <= LONGEST_SCHEDULE {
+        both.replay(schedule.as_bytes(), &mut [0x5a; REPORT_ROOM + 40]);
+    }
+}
+
+fn hold_to_demand(both: &mut Compared, broken: Option<String>) {
+    if let Some(what) = broken {
+        both.note(format!("demand 3 is broken: {what}"));
+    }
+}

@@ -1,0 +1,36 @@
+//! A second implementation of document 01 ("the oracle"), and the harness that holds an engine against it.
+//!
+//! The model: limits, message, reader, writer, record, soundness, base, checks, steps, net, demand, schedule, replay, and model with the calls.
+//! The harness: engine (the calls), guard and compared (one call on both), case, generate, plan, reach, shrink, runner, rng; faults.
+//! Stored cases: starred, twelve. The proved engine: linked. Figures: bench.
+
+pub mod base;
+pub mod bench;
+pub mod case;
+pub mod checks;
+pub mod compared;
+pub mod demand;
+pub mod engine;
+pub mod faults;
+pub mod generate;
+pub mod guard;
+pub mod limits;
+#[cfg(feature = "linked")]
+pub mod linked;
+pub mod message;
+pub mod model;
+pub mod net;
+pub mod plan;
+pub mod reach;
+pub mod reader;
+pub mod record;
+pub mod replay;
+pub mod rng;
+pub mod runner;
+pub mod schedule;
+pub mod shrink;
+pub mod soundness;
+pub mod starred;
+pub mod steps;
+pub mod twelve;
+pub mod writer;

@@ -1,0 +1,25 @@
+//! One frame into the front of an output: refusals 1, 6, 8, 9, 11, 12, in that order.
+//! Number 6 of a lone frame means that the output is shorter than that frame; a kind that there is not has no length and is 8.
+
+use crate::faults::Fault;
+use crate::message::{Kind, Message};
+use crate::reader::{judge_identifiers, net_size, Number};
+
+pub fn write(n: usize, kind: u8, ids: &[u32], out: &mut [u8], fault: Fault) -> Result<usize, Number> {
+    net_size(n)?;
+    let kind = Kind::of(kind);
+    if kind.is_some_and(|kind| out.len() < kind.frame_length(n)) {
+        return Err(6);
+    }
+    let kind = kind.ok_or(8)?;
+    if ids.len() != kind.count(n) {
+        return Err(9);
+    }
+    judge_identifiers(ids, fault)?;
+    let frame = Message::new(kind, ids.to_vec()).frame_with(fault);
+    out[..frame.len()].copy_from_slice(&frame);
+    if fault == Fault::OutputPastFramesTouched && out.len() > frame.len() {
+        out[frame.len()] ^= 0xff;
+    }
+    Ok(frame.len())
+}
