@@ -17,6 +17,8 @@ const ROW: i32 = 23;
 /// A long picture repeats its heads, so that one is always on the screen.
 const ROWS_BETWEEN_HEADS: usize = 36;
 const FEWEST_ROWS_UNDER_A_HEAD: usize = 14;
+/// The word "secondary" fits the box under a base's line.
+const NARROWEST_GAP: i32 = 84;
 /// Room beside a label for the arrow's end and the base's line.
 const BESIDE_LABEL: i32 = 22;
 
@@ -85,7 +87,7 @@ fn gap(trace: &Trace, names: &Names) -> i32 {
     let label = heard.map(|hearing| width_of(&names.message(&hearing.message), FIXED)).max().unwrap_or(0);
     let id = trace.ids.iter().map(|id| width_of(&id.to_string(), FIXED)).max().unwrap_or(0);
     let spread = 440 / trace.n().max(1) as i32;
-    (label + BESIDE_LABEL).max(id + 18).max(spread.min(150)).max(78)
+    (label + BESIDE_LABEL).max(id + 18).max(spread.min(150)).max(NARROWEST_GAP)
 }
 
 /// The schedule's line; a forgery without its bytes.
