@@ -39,7 +39,7 @@ pub record Begins (k : ℕ) (st : Story) : Type 0 where
   pub net : st .net ≡ idleNet (st .n) (st .t) id
 
 -- ---- `net n t`
-size-passed : (n t : ℕ) → sizeRefusal n t ≡ 0 → NetSize n × (t ≤ mostFaulty n)
+pub size-passed : (n t : ℕ) → sizeRefusal n t ≡ 0 → NetSize n × (t ≤ mostFaulty n)
 unfolding sizeRefusal
 size-passed n t e =
     let p = first-passed (netRefusal n) (choose (ltb (mostFaulty n) t) 2 0) e in
