@@ -1,8 +1,7 @@
 -- What the calls of a base answer and broadcast fits where the program keeps it: three frames at most, each in its place, all of them in the output;
 -- and a call that is turned down changes nothing. So what is taken from the output are the frames that the call broadcast.
-use Prim.Native.Nat.{ℕ, _+_, _≤_, _<_}
-use mathlib.Core.Path.{_≡_, refl, sym, ap, _∙_, subst}
-use mathlib.Core.Bool.{true}
+use Prim.Native.Nat.{ℕ, _+_, _≤_}
+use mathlib.Core.Path.{_≡_, refl}
 use mathlib.Core.List.{List, [], _∷_, _++_}
 use native.Mathlib.Omega.{arith}
 use lib.ListN.{length}
@@ -13,9 +12,8 @@ use Rattle.frame.specs.Encoding.{encode}
 use Rattle.frame.specs.Encoding.Laws.{length-frame}
 use Rattle.protocol.specs.declared.Base.{Base}
 use Rattle.protocol.specs.Record.Memory.{Sized}
-use Rattle.protocol.specs.Sound.{idle}
 use Rattle.protocol.specs.Sound.Laws.{record-passed}
-use Rattle.protocol.specs.Steps.{Answer, accepted, discarded, refused, Done, refuses, discards, accepts, withState, stops, onMessage, begins, startStep, start, arrivalStep, arrival}
+use Rattle.protocol.specs.Steps.{accepted, discarded, refused, Done, refuses, discards, accepts, withState, stops, begins, start, arrivalStep, arrival}
 use Rattle.protocol.specs.Steps.Answers.{Unchanged}
 use Rattle.protocol.specs.Steps.Cases.{Takes, takesAnnounce, takesVerify, takesCorrect, takesAndVotes, takesVerifyFinal, Ends, discarding, runningOn, stopping, message-ends, begun, afterStart, start-step-cases, arrival-step-cases}
 use Rattle.protocol.specs.Steps.Laws.{takes-rest}

@@ -9,7 +9,6 @@ use Rattle.lists.specs.Choice.{choose, and}
 use Rattle.lists.specs.Lists.{padTo}
 use Rattle.frame.specs.Encoding.{encode}
 use Rattle.protocol.specs.declared.Base.{Base}
-use Rattle.protocol.specs.Sound.{idleBase}
 use Rattle.protocol.specs.Steps.{Done}
 use Rattle.protocol.specs.Net.{callRefusal}
 use Rattle.node.specs.declared.Frame.{Frame}

@@ -1,6 +1,6 @@
 -- The same in terms of what a call wrote: an output, and the lengths of up to three frames in it.
 use Prim.Native.Nat.{ℕ, _+_, _≤_}
-use mathlib.Core.List.{List, [], _∷_}
+use mathlib.Core.List.{List}
 use lib.Dec.{eqb}
 use lib.ListN.{length, take, drop}
 use Rattle.limits.specs.Limits.{longestFrame}

@@ -3,14 +3,14 @@ use Prim.Native.Nat.{ℕ, _-_, _<_, _≤_}
 use mathlib.Core.Path.{_≡_, refl, sym, ap, _∙_}
 use mathlib.Core.Logic.{_≢_}
 use mathlib.Core.Bool.{Bool, true, false}
-use mathlib.Core.List.{List, []}
+use mathlib.Core.List.{List}
 use native.Mathlib.Omega.{arith}
 use borrow.Author.Tests.{eq-eqb, ne-eqb, lt-ltb, le-ltb}
-use lib.ListN.{length, getD}
+use lib.ListN.{length}
 use lib.Dec.{eqb, ltb}
 use Rattle.limits.specs.Limits.{outputRoom}
 use Rattle.limits.specs.Refusals.{netRefusal}
-use Rattle.lists.specs.Choice.{choose, and, or, first}
+use Rattle.lists.specs.Choice.{and, or}
 use Rattle.lists.specs.Choice.Laws.{choose-no, chosen-yes, chosen-no, and-both, and-no, and-fails, or-first, or-second, or-neither, first-none, first-given, first-passed}
 use Rattle.frame.specs.Reading.{burstRefusal, readRefusal}
 use Rattle.reader.specs.declared.Reading.the-variants.{Refused}
@@ -19,7 +19,7 @@ use Rattle.reader.specs.Answers.Laws.{reading-refused}
 use Rattle.protocol.specs.declared.Base.{Base}
 use Rattle.protocol.specs.Numbering.{linkTo}
 use Rattle.protocol.specs.Sound.{settingRefusal, recordRefusal}
-use Rattle.protocol.specs.Steps.{Done, start, arrival, arrivalRefusal, linkRefusal, outputRefusal}
+use Rattle.protocol.specs.Steps.{start, arrival, arrivalRefusal}
 use Rattle.protocol.specs.Steps.Answers.{arrival-number}
 use Rattle.protocol.specs.Net.{Event, starts, carry, forge, at, good, broadcast, call, callRefusal, eventRefusal, refusal}
 use Rattle.protocol.specs.Net as Nets

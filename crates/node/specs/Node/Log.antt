@@ -1,17 +1,16 @@
 -- How many broadcasts a base has, and each of them.
-use Prim.Native.Nat.{ℕ, zero, suc, _+_, _-_, _≤_, _<_}
+use Prim.Native.Nat.{ℕ, zero, suc, _-_, _≤_, _<_}
 use mathlib.Core.Path.{_≡_, refl, sym, ap, _∙_}
 use mathlib.Core.List.{List, [], _∷_, map}
 use native.Mathlib.Omega.{arith}
 use borrow.Author.Tests.{lt-ltb, le-ltb, ltb-true, ltb-false}
-use lib.ListN.{length, getD, take, length-map, length-take}
+use lib.ListN.{length, getD, take, length-map, length-take, List·getD-map}
 use lib.Seq.{length-take-le, take-all, getD-take}
 use lib.Dec.{ltb}
-use Rattle.limits.specs.Limits.{longestFrame}
 use Rattle.lists.specs.Choice.Laws.{chosen-yes, chosen-no, choose-ind}
 use Rattle.node.specs.declared.Frame.{Frame}
 use Rattle.node.specs.declared.Node.{Node}
-use Rattle.node.specs.Node.{mostBroadcasts, written, logOf, emptyFrame, noFrame, frameAt}
+use Rattle.node.specs.Node.{written, logOf, emptyFrame, noFrame, frameAt}
 
 pub log-part : (v : Node) → v .count ≤ length (v .frames) → length (logOf v) ≡ v .count
 unfolding logOf
@@ -30,11 +29,6 @@ pub frame-none : (v : Node) (i k : ℕ) → i ≡ k - 1 → length (logOf v) ≤
 unfolding frameAt
 frame-none v i k e h = chosen-no _ (le-ltb (k - 1) (length (logOf v)) (omega arith)) refl
 
-at-map : (frames : List Frame) (i : ℕ) → i < length frames → written (getD frames i noFrame) ≡ getD (map written frames) i []
-at-map [] i h = absurd (omega arith)
-at-map (f ∷ frames) zero h = refl
-at-map (f ∷ frames) (suc i) h = at-map frames i (omega arith)
-
 past-map : (frames : List Frame) (i : ℕ) → length frames ≤ i → getD (map written frames) i [] ≡ []
 past-map [] i h = refl
 past-map (f ∷ frames) zero h = absurd (omega arith)
@@ -52,7 +46,7 @@ frame-written v k = choose-ind (λ (f : Frame). written f ≡ getD (logOf v) (k 
     counted = unfold logOf in length-map kept written
 
     there : k - 1 < length (logOf v) → written (getD (v .frames) (k - 1) noFrame) ≡ getD (logOf v) (k - 1) []
-    there h = unfold logOf in ap written (sym (getD-take (v .count) (v .frames) (k - 1) noFrame (omega (arith, counted, length-take (v .count) (v .frames))))) ∙ at-map kept (k - 1) (omega (arith, counted))
+    there h = unfold logOf written in ap written (sym (getD-take (v .count) (v .frames) (k - 1) noFrame (omega (arith, counted, length-take (v .count) (v .frames))))) ∙ sym (List·getD-map written kept (k - 1) noFrame)
 
     past : length (logOf v) ≤ k - 1 → written emptyFrame ≡ getD (logOf v) (k - 1) []
     past h = unfold logOf written in sym (past-map kept (k - 1) (omega (arith, counted)))

@@ -4,7 +4,6 @@ use mathlib.Core.Path.{_≡_, sym}
 use mathlib.Core.Bool.{true, false}
 use borrow.Author.Tests.{le-leb, lt-leb, leb-true}
 use lib.Dec.{leb}
-use Rattle.lists.specs.Choice.{and}
 use Rattle.lists.specs.Choice.Laws.{and-both, and-true, and-no, and-fails}
 use Rattle.node.specs.Node.{within}
 

@@ -11,7 +11,7 @@ use lib.Seq.{take-suc, getD-drop, length-take-le, take-at, drop-at}
 use Rattle.limits.specs.Limits.{longestFrame, outputRoom}
 use Rattle.lists.specs.Lists.{padTo}
 use Rattle.lists.specs.Lists.Laws.{pad-next}
-use Rattle.lists.specs.Choice.Laws.{choose-yes, choose-no, chosen-yes, chosen-no}
+use Rattle.lists.specs.Choice.Laws.{choose-no, chosen-yes, chosen-no}
 use Rattle.frame.specs.Message.{Message}
 use Rattle.frame.specs.Encoding.{encode, over}
 use Rattle.frame.specs.Encoding.Laws.{length-over}

@@ -1,5 +1,5 @@
 -- What waits, counted pair by pair of bases.
-use Prim.Native.Nat.{ℕ, suc, _+_, _*_, _-_, _≤_, _<_}
+use Prim.Native.Nat.{ℕ, suc, _+_, _-_, _≤_, _<_}
 use mathlib.Core.Path.{_≡_, refl, sym, ap, _∙_}
 use mathlib.Core.Logic.{_≢_}
 use mathlib.Core.Bool.{Bool, true, false, not}
@@ -15,7 +15,7 @@ use Rattle.counting.specs.Sums.{bit, sum}
 use Rattle.counting.specs.Sums.Laws.{sum-mono, sum-same}
 use Rattle.counting.specs.Sums.Bounds.{bit-most}
 use Rattle.counting.specs.Sums.Loops.{sum-turn}
-use Rattle.protocol.specs.Net.{Pair, good, waitingFrom, waiting}
+use Rattle.protocol.specs.Net.{Pair, good, waitingFrom}
 use Rattle.node.specs.declared.Node.{Node}
 use Rattle.node.specs.Node.{mostBroadcasts, logOf, heardBy}
 use Rattle.node.specs.Node.Within.{is-within}

@@ -3,7 +3,7 @@ use mathlib.Core.Path.{refl}
 use native.Mathlib.Omega.{arith}
 use Rattle.node.specs.Calls.{arrival-tidy}
 use Rattle.node.specs.Written.Laws.{call-fits, call-told}
-use Rattle.node.proofs.Sizes.{node-sized}
+use Rattle.node.proofs.Sizes.{node-base}
 use borrow.Author.Needs.{needs}
 use Rattle.node.proofs.call.hear.Statement.{statement}
 use Rattle.node.proofs.call.hear.Tie as tie
@@ -18,10 +18,10 @@ slice-aggregate-settle : tie.Need-slice-aggregate-settle
 slice-aggregate-settle c = search needs
 
 settle-requires : tie.Need-settle-requires
-settle-requires c κs = call-fits (c .before .before .before .before .before .before .before .args .node) _ (arrival-tidy _ _ _ _ (node-sized (c .before .before .before .before .before .before .before .args .node) _ (c .before .before .before .before .before .before .before .good .0) .base) (λ i. omega (arith, c .before .before .before .before .before .before .shared-slice-known .given i))) _ refl (c .before .before .before .arrive .ensures .0) (c .before .before .before .arrive .ensures .1)
+settle-requires c κs = call-fits (c .before .before .before .before .before .before .before .args .node) _ (arrival-tidy _ _ _ _ (node-base (c .before .before .before .before .before .before .before .args .node) _ (c .before .before .before .before .before .before .before .good .0)) (λ i. omega (arith, c .before .before .before .before .before .before .shared-slice-known .given i))) _ refl (c .before .before .before .arrive .ensures .0) (c .before .before .before .arrive .ensures .1)
 
 returns : tie.Need-returns
-returns c = call-told (c .before .before .before .before .before .before .before .before .args .node) _ (arrival-tidy _ _ _ _ (node-sized (c .before .before .before .before .before .before .before .before .args .node) _ (c .before .before .before .before .before .before .before .before .good .0) .base) (λ i. omega (arith, c .before .before .before .before .before .before .before .shared-slice-known .given i))) _ refl (c .before .before .before .before .arrive .ensures .0) (c .before .before .before .before .arrive .ensures .1) (c .settle .ensures)
+returns c = call-told (c .before .before .before .before .before .before .before .before .args .node) _ (arrival-tidy _ _ _ _ (node-base (c .before .before .before .before .before .before .before .before .args .node) _ (c .before .before .before .before .before .before .before .before .good .0)) (λ i. omega (arith, c .before .before .before .before .before .before .before .shared-slice-known .given i))) _ refl (c .before .before .before .before .arrive .ensures .0) (c .before .before .before .before .arrive .ensures .1) (c .settle .ensures)
 
 pub hear-spec : {M : Type 1} → statement M
 hear-spec =
