@@ -1,6 +1,6 @@
 -- What the program keeps while it reads a schedule, line by line: the steps of `schedule/specs/Story`, with the program's net for the net that it stands for.
 use Prim.Native.Nat.{ℕ, zero, suc, _+_, _-_, _^_}
-use mathlib.Core.Bool.{Bool, not}
+use mathlib.Core.Bool.{not}
 use mathlib.Core.List.{List, _++_}
 use lib.Dec.{eqb, ltb, leb}
 use lib.ListN.{length, drop}

@@ -1,6 +1,6 @@
 -- `replay::play_whole` meets its contract: the schedule's length, then its header and its events.
 use borrow.Author.Needs.{needs}
-use mathlib.Core.Path.{_≡_, ap, _∙_}
+use mathlib.Core.Path.{ap, _∙_}
 use borrow.Author.Tests.{lt-ltb, le-ltb}
 use lib.ListN.{length}
 use denote.Ref.{now}

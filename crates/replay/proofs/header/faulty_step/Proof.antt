@@ -1,7 +1,7 @@
 -- `replay::header::faulty_step` meets its contract: any other line is left for the events.
 use native.Mathlib.Omega.{arith}
 use borrow.Author.Needs.{needs}
-use mathlib.Core.Path.{_≡_, refl, sym, _∙_, subst}
+use mathlib.Core.Path.{refl, sym, _∙_, subst}
 use Rattle.lines.specs.Lines.Laws.{base-range}
 use Rattle.lines.specs.Lines.Told.{FaultyTold, faulty-told}
 use Rattle.lines.specs.declared.bases.Two.the-variants.{Both}

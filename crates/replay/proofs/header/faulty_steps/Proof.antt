@@ -1,7 +1,7 @@
 -- `replay::header::faulty_steps` meets its contract. Invariant: k lines are read, or those that name a faulty link.
 use native.Mathlib.Omega.{arith}
 use borrow.Author.Needs.{needs}
-use Prim.Native.Nat.{ℕ, suc, _+_, _-_, _≤_}
+use Prim.Native.Nat.{ℕ, _+_, _-_, _≤_}
 use mathlib.Core.Path.{_≡_, refl, ap, _∙_}
 use denote.Ref.{now}
 use Rattle.replay.specs.declared.play.Play.{Play}

@@ -1,6 +1,6 @@
 -- `replay::header::id_step` meets its contract: the line's form, then numbers 3 and 14.
 use borrow.Author.Needs.{needs}
-use mathlib.Core.Path.{refl, sym, ap, _∙_}
+use mathlib.Core.Path.{sym, ap, _∙_}
 use Rattle.net.specs.declared.Net.{Net}
 use Rattle.replay.specs.Play.{onwardPlay, idPlay}
 use Rattle.replay.specs.Play.Laws.{unless-refused, unless-onward, judged-refused, judged-onward}

@@ -5,7 +5,7 @@ use mathlib.Core.Path.{_≡_, ap, _∙_}
 use Prim.Native.Nat.{ℕ}
 use denote.Ref.{now}
 use Rattle.replay.specs.declared.play.Play.{Play}
-use Rattle.replay.specs.Play.{idPlay, idPlays}
+use Rattle.replay.specs.Play.{idPlays}
 use Rattle.replay.specs.Play.Laws.{ids-none, ids-more, id-near}
 use Rattle.replay.proofs.header.id_steps.Statement.{statement}
 use Rattle.replay.proofs.header.id_steps.Tie as tie

@@ -1,6 +1,6 @@
 -- `replay::header::mark_faulty` meets its contract: "none twice", then number 15.
 use borrow.Author.Needs.{needs}
-use mathlib.Core.Path.{refl, sym, ap, _∙_}
+use mathlib.Core.Path.{sym, ap, _∙_}
 use mathlib.Core.Bool.{not}
 use Rattle.lists.specs.Choice.Laws.{chosen-yes, chosen-no}
 use Rattle.net.specs.declared.Net.{Net}

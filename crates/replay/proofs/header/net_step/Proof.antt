@@ -1,7 +1,7 @@
 -- `replay::header::net_step` meets its contract: the line's form, then numbers 1 and 2.
 use native.Mathlib.Omega.{arith}
 use borrow.Author.Needs.{needs}
-use mathlib.Core.Path.{_≡_, refl, sym, ap, ap₂, _∙_}
+use mathlib.Core.Path.{_≡_, sym, ap, ap₂, _∙_}
 use Rattle.net.specs.declared.Net.{Net}
 use Rattle.schedule.specs.Header.{sizeRefusal}
 use Rattle.schedule.specs.Story.Begins.{size-passed}

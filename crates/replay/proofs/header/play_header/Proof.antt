@@ -1,11 +1,11 @@
 -- `replay::header::play_header` meets its contract: one step after another; no more lines than bytes count of their numbers.
 use native.Mathlib.Omega.{arith}
 use borrow.Author.Needs.{needs}
-use Prim.Native.Nat.{ℕ, suc, _+_, _≤_}
-use mathlib.Core.Path.{_≡_, refl, ap, ap₂, sym, _∙_, subst}
+use Prim.Native.Nat.{suc, _+_, _≤_}
+use mathlib.Core.Path.{ap, sym, _∙_, subst}
 use denote.Ref.{now}
 use Rattle.replay.specs.declared.play.Play.{Play}
-use Rattle.replay.specs.Play.{netPlay, idPlays, faultyPlay, repeatPlay, headerPlay}
+use Rattle.replay.specs.Play.{idPlays, faultyPlay, repeatPlay, headerPlay}
 use Rattle.replay.specs.Play.Laws.{net-near, ids-near, faulties-near}
 use Rattle.replay.proofs.header.play_header.Statement.{statement}
 use Rattle.replay.proofs.header.play_header.Tie as tie
@@ -29,10 +29,11 @@ returns : tie.Need-returns
 unfolding headerPlay
 returns c = let s = now (c .before .before .before .before .before .before .args .s) in
     let faulties : Play → Play = λ p. repeatPlay (suc (p .net .t)) (faultyPlay s) p in
-    let ids : Play → Play = λ p. idPlays s (p .net .n) p in
-    (c .faulty-steps .ensures ∙ ap faulties (c .before .before .id-steps .ensures ∙ ap ids (c .before .before .before .before .net-step .ensures)),
-    subst (λ (p : Play). p .line ≤ 600) (sym (c .faulty-steps .ensures))
-    (omega (arith, faulties-near s (suc (c .before .before .id-steps .result .net .t)) (2 + c .before .before .before .before .net-step .result .net .n) (c .before .before .id-steps .result) (named-line (c .before)))))
+    let ids : Play → Play = λ p. idPlays s (p .net .n) p in (
+      c .faulty-steps .ensures ∙ ap faulties (c .before .before .id-steps .ensures ∙ ap ids (c .before .before .before .before .net-step .ensures)),
+      subst (λ (p : Play). p .line ≤ 600) (sym (c .faulty-steps .ensures))
+          (omega (arith, faulties-near s (suc (c .before .before .id-steps .result .net .t)) (2 + c .before .before .before .before .net-step .result .net .n) (c .before .before .id-steps .result) (named-line (c .before)))),
+    )
 
 pub play-header-spec : {M : Type 1} → statement M
 play-header-spec =

@@ -1,7 +1,7 @@
 -- `replay::header::size_refusal` meets its contract: number 1, then number 2.
 use native.Mathlib.Omega.{arith}
 use borrow.Author.Needs.{needs}
-use mathlib.Core.Path.{refl, sym, _∙_}
+use mathlib.Core.Path.{sym, _∙_}
 use borrow.Author.Tests.{lt-ltb, le-ltb}
 use Rattle.limits.specs.Refusals.Laws.{net-passed}
 use Rattle.lists.specs.Choice.Laws.{first-given, first-none, choose-yes, choose-no}

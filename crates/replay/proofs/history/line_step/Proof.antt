@@ -1,6 +1,6 @@
 -- `replay::history::line_step` meets its contract: the line decides.
 use borrow.Author.Needs.{needs}
-use mathlib.Core.Path.{_≡_, refl, sym, ap, _∙_, subst}
+use mathlib.Core.Path.{sym, ap, _∙_, subst}
 use denote.Ref.{now}
 use Rattle.lines.specs.declared.event.Line.the-variants.{Forge}
 use Rattle.lines.specs.Lines.Told.{EventTold, event-told}

@@ -35,9 +35,13 @@ loop-less : tie.Need-loop-less Inv-loop μ-loop
 loop-less c = omega arith
 
 loop-again : tie.Need-loop-again Inv-loop μ-loop
-loop-again c = let I = c .before .before .before .before .before .before .loop .inv in
-    (omega arith, (omega (arith, ap (λ (p : Play). p .line) (c .line-step .ensures), line-near (now (c .before .before .before .before .before .before .before .before .args .s)) (600 + c .before .before .before .before .before .before .loop .k) (c .before .before .before .before .before .before .loop .play) (I .1 .0)),
-    repeat-more _ _ _ (I .1 .1) (next-line _ _ (c .before .before .before .if1 .left) (c .before .if2 .left) (c .line-step .ensures))))
+loop-again c = let I = c .before .before .before .before .before .before .loop .inv in (
+  omega arith,
+  (
+    omega (arith, ap (λ (p : Play). p .line) (c .line-step .ensures), line-near (now (c .before .before .before .before .before .before .before .before .args .s)) (600 + c .before .before .before .before .before .before .loop .k) (c .before .before .before .before .before .before .loop .play) (I .1 .0)),
+    repeat-more _ _ _ (I .1 .1) (next-line _ _ (c .before .before .before .if1 .left) (c .before .if2 .left) (c .line-step .ensures)),
+  ),
+)
 
 returns-3 : tie.Need-returns-3 Inv-loop μ-loop
 returns-3 c = c .before .loop .inv .1 .1 ∙ ap (λ (k : ℕ). repeatPlay k (nextPlay (now (c .before .before .before .args .s))) (c .before .before .before .args .first)) (omega (arith, c .before .loop .inv .0, c .loop-test .left))
