@@ -1,11 +1,12 @@
-// Calls on a base's record: a start, and an arrival on a link.
-use crate::Frame;
-use crate::Node;
-use crate::Told;
+// Calls on the record of a base of the program's net: a start, and an arrival on a link. The frames that a call writes join the base's broadcasts.
+mod keep;
+
 use crate::keep::keep_three;
 use engine::arrival::arrive;
 use limits::LONGEST_FRAME;
 use limits::OUTPUT_ROOM;
+use node::Frame;
+use node::Node;
 use protocol::Base;
 use protocol::Outcome;
 use protocol::Step;
@@ -14,8 +15,14 @@ ghost use lib.ListN.{length};
 ghost use Rattle.limits.specs.Limits.{outputRoom};
 ghost use Rattle.protocol.specs.Steps.{arrival};
 ghost use Rattle.protocol.specs.Steps as Steps;
-ghost use Rattle.node.specs.Node.{written, told};
-ghost use Rattle.node.specs.Written.{Fitting, settledOf};
+ghost use Rattle.node.specs.Node.{written};
+ghost use Rattle.calls.specs.Calls.{told, Fitting, settledOf};
+
+// A base after a call on its record, beside the number by which the call was turned down, 0 for none.
+pub struct Told {
+    pub refusal: u8,
+    pub node: Node,
+}
 
 fn settle(node: Node, base: Base, outcome: Outcome, out: &[u8]) -> Told
     requires { ⌜ Fitting outcome (length (now out)) ⌝ }

@@ -1,10 +1,10 @@
--- `node::call::start` meets its contract: the frames of a start fit, and are those that it broadcast.
+-- `calls::start` meets its contract: the frames of a start fit, and are those that it broadcast.
 use mathlib.Core.Path.{refl}
-use Rattle.node.specs.Calls.{start-tidy}
-use Rattle.node.specs.Written.Laws.{call-fits, call-told}
+use Rattle.calls.specs.Calls.Tidy.{start-tidy}
+use Rattle.calls.specs.Calls.Laws.{call-fits, call-told}
 use borrow.Author.Needs.{needs}
-use Rattle.node.proofs.call.start.Statement.{statement}
-use Rattle.node.proofs.call.start.Tie as tie
+use Rattle.calls.proofs.start.Statement.{statement}
+use Rattle.calls.proofs.start.Tie as tie
 
 slice-aggregate-start : tie.Need-slice-aggregate-start
 slice-aggregate-start c = search needs

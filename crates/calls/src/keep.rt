@@ -1,15 +1,15 @@
 // Frames that a call wrote join the base's broadcasts.
-use crate::Frame;
-use crate::MOST_BROADCASTS;
-use crate::Node;
 use limits::LONGEST_FRAME;
+use node::Frame;
+use node::MOST_BROADCASTS;
+use node::Node;
 use protocol::Base;
 ghost use mathlib.Core.Path.{_≡_};
 ghost use Prim.Native.Nat.{_+_, _≤_};
 ghost use lib.ListN.{length, take, drop};
 ghost use Rattle.limits.specs.Limits.{longestFrame};
 ghost use Rattle.node.specs.Node.{frameOf};
-ghost use Rattle.node.specs.Written.{keptOf, threeKept};
+ghost use Rattle.calls.specs.Calls.{keptOf, threeKept};
 
 // The len bytes of out from a place on, as a frame.
 fn frame_of(out: &[u8], from: usize, len: usize) -> Frame

@@ -23,12 +23,12 @@ use Rattle.protocol.specs.Net.{callRefusal}
 use Rattle.protocol.specs.Steps.{Answer, accepted, discarded, refused, Done, encodeAll, lengths, outcomeOf, stepOf, outputOf}
 use Rattle.protocol.specs.Steps.Answers.{Unchanged}
 use Rattle.protocol.specs.Steps.Output.{lengths-sum}
 use Rattle.node.specs.declared.Frame.{Frame}
 use Rattle.node.specs.declared.Node.{Node}
-use Rattle.node.specs.declared.Told.{Told}
-use Rattle.node.specs.Node.{mostBroadcasts, frameOf, joined, joinedAll, withBase, after, told}
-use Rattle.node.specs.Written.{keptOf, threeKept, Fit, Fitting, settledOf}
-use Rattle.node.specs.Calls.{AllShort, encoded-length, Tidy}
+use Rattle.calls.specs.declared.Told.{Told}
+use Rattle.node.specs.Node.{mostBroadcasts, frameOf, joined, joinedAll, withBase, after}
+use Rattle.calls.specs.Calls.{told, keptOf, threeKept, Fit, Fitting, settledOf}
+use Rattle.calls.specs.Calls.Tidy.{AllShort, encoded-length, Tidy}
 
 pub copied : (out : List ℕ) (from len i : ℕ) → i < len → len ≤ longestFrame → from + len ≤ length out
     → set (padTo longestFrame (take i (drop from out))) i (getD out (from + i) 0) ≡ padTo longestFrame (take (i + 1) (drop from out))

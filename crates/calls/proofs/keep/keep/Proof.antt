@@ -1,9 +1,9 @@
--- `node::keep::keep` meets its contract: no frame, no room, or one broadcast more.
+-- `calls::keep::keep` meets its contract: no frame, no room, or one broadcast more.
 use mathlib.Core.Path.{sym, _∙_}
-use Rattle.node.specs.Written.Laws.{part-length, kept-none, kept-full, kept-more}
+use Rattle.calls.specs.Calls.Laws.{part-length, kept-none, kept-full, kept-more}
 use borrow.Author.Needs.{needs}
-use Rattle.node.proofs.keep.keep.Statement.{statement}
-use Rattle.node.proofs.keep.keep.Tie as tie
+use Rattle.calls.proofs.keep.keep.Statement.{statement}
+use Rattle.calls.proofs.keep.keep.Tie as tie
 
 returns : tie.Need-returns
 returns c = kept-none _ _ (part-length _ _ _ (c .before .before .pre .1) ∙ c .if1 .taken)

@@ -1,14 +1,14 @@
--- `node::call::hear_frame` meets its contract: the bytes of a frame are as many of its array as its length says.
+-- `calls::hear_frame` meets its contract: the bytes of a frame are as many of its array as its length says.
 use Rattle.node.proofs.Sizes.{frame-sized}
 use Rattle.node.specs.Node.{written}
 use native.Mathlib.Omega.{arith}
 use Prim.Native.Nat.{_≤_}
 use mathlib.Core.Path.{sym}
 use lib.ListN.{length}
 use lib.Seq.{take-all, length-take-le}
 use borrow.Author.Needs.{needs}
-use Rattle.node.proofs.call.hear_frame.Statement.{statement}
-use Rattle.node.proofs.call.hear_frame.Tie as tie
+use Rattle.calls.proofs.hear_frame.Statement.{statement}
+use Rattle.calls.proofs.hear_frame.Tie as tie
 
 room : (c : tie.Else1) → let f = c .before .before .args .frame in f .len ≤ length (f .bytes)
 room c = let s = c .before .before in omega (arith, frame-sized (s .args .frame) _ (s .good .1 .1 .0), c .if1 .left)

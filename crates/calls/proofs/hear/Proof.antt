@@ -1,12 +1,12 @@
--- `node::call::hear` meets its contract: the frames of an arrival fit, and are those that it broadcast.
+-- `calls::hear` meets its contract: the frames of an arrival fit, and are those that it broadcast.
 use mathlib.Core.Path.{refl}
 use native.Mathlib.Omega.{arith}
-use Rattle.node.specs.Calls.{arrival-tidy}
-use Rattle.node.specs.Written.Laws.{call-fits, call-told}
+use Rattle.calls.specs.Calls.Tidy.{arrival-tidy}
+use Rattle.calls.specs.Calls.Laws.{call-fits, call-told}
 use Rattle.node.proofs.Sizes.{node-base}
 use borrow.Author.Needs.{needs}
-use Rattle.node.proofs.call.hear.Statement.{statement}
-use Rattle.node.proofs.call.hear.Tie as tie
+use Rattle.calls.proofs.hear.Statement.{statement}
+use Rattle.calls.proofs.hear.Tie as tie
 
 slice-aggregate-arrive : tie.Need-slice-aggregate-arrive
 slice-aggregate-arrive c = search needs

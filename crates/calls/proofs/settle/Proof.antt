@@ -1,8 +1,8 @@
--- `node::call::settle` meets its contract: by the outcome, and its frames fit.
-use Rattle.node.specs.Written.Laws.{accepted-fits, discarded-fits, settled-refused, settled-accepted, settled-discarded}
+-- `calls::settle` meets its contract: by the outcome, and its frames fit.
+use Rattle.calls.specs.Calls.Laws.{accepted-fits, discarded-fits, settled-refused, settled-accepted, settled-discarded}
 use borrow.Author.Needs.{needs}
-use Rattle.node.proofs.call.settle.Statement.{statement}
-use Rattle.node.proofs.call.settle.Tie as tie
+use Rattle.calls.proofs.settle.Statement.{statement}
+use Rattle.calls.proofs.settle.Tie as tie
 
 enum-known-outcome : tie.Need-enum-known-outcome
 enum-known-outcome c = search needs

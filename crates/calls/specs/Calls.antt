@@ -1,4 +1,4 @@
--- The same in terms of what a call wrote: an output, and the lengths of up to three frames in it.
+-- A call on a base's record, and the same in terms of what it wrote: an output, and the lengths of up to three frames in it.
 use Prim.Native.Nat.{ℕ, _+_, _≤_}
 use mathlib.Core.List.{List}
 use lib.Dec.{eqb}
@@ -8,11 +8,19 @@ use Rattle.lists.specs.Choice.{choose}
 use Rattle.protocol.specs.declared.Base.{Base}
 use Rattle.protocol.specs.declared.Outcome.{Outcome}
 use Rattle.protocol.specs.declared.Outcome.the-variants.{Accepted, Discarded, Refused}
+use Rattle.protocol.specs.Steps.{Done}
+use Rattle.protocol.specs.Net.{callRefusal}
 use Rattle.node.specs.declared.Node.{Node}
-use Rattle.node.specs.declared.Told.{Told}
-use Rattle.node.specs.Node.{joined, withBase}
+use Rattle.node.specs.Node.{joined, withBase, after}
+use Rattle.calls.specs.declared.Told.{Told}
+pub mod Tidy
 pub mod Laws
 
+-- the base after the call, beside the number by which the call was turned down
+unfoldable pub told : Node → Done → Told
+told v d = record { refusal = callRefusal (d .answer); node = after v d }
+
+-- ---- what it wrote
 -- a length of zero stands for no frame
 unfoldable pub keptOf : Node → List ℕ → Node
 keptOf v bytes = choose (eqb (length bytes) 0) v (joined v bytes)

@@ -1,10 +1,10 @@
--- `node::keep::keep_three` meets its contract: three frames, each kept on what the one before left.
+-- `calls::keep::keep_three` meets its contract: three frames, each kept on what the one before left.
 use mathlib.Core.Path.{_∙_}
-use Rattle.node.specs.Written.{threeKept}
+use Rattle.calls.specs.Calls.{threeKept}
 use Rattle.node.specs.Node.{withBase}
 use borrow.Author.Needs.{needs}
-use Rattle.node.proofs.keep.keep_three.Statement.{statement}
-use Rattle.node.proofs.keep.keep_three.Tie as tie
+use Rattle.calls.proofs.keep.keep_three.Statement.{statement}
+use Rattle.calls.proofs.keep.keep_three.Tie as tie
 
 keep-requires : tie.Need-keep-requires
 keep-requires c κs = search needs

@@ -1,4 +1,4 @@
--- `node::keep::frame_of` meets its contract: the bytes copied so far stand at the front, zeros behind them.
+-- `calls::keep::frame_of` meets its contract: the bytes copied so far stand at the front, zeros behind them.
 use Prim.Native.Nat.{_≤_, _-_}
 use mathlib.Core.Path.{_≡_, refl}
 use native.Mathlib.Omega.{arith}
@@ -7,10 +7,10 @@ use lib.ListN.{length, take, drop, length-drop}
 use lib.Seq.{length-take-le}
 use Rattle.limits.specs.Limits.{longestFrame}
 use Rattle.lists.specs.Lists.{padTo}
 use Rattle.node.specs.Node.{frameOf}
-use Rattle.node.specs.Written.Laws.{copied}
-use Rattle.node.proofs.keep.frame_of.Statement.{statement}
-use Rattle.node.proofs.keep.frame_of.Tie as tie
+use Rattle.calls.specs.Calls.Laws.{copied}
+use Rattle.calls.proofs.keep.frame_of.Statement.{statement}
+use Rattle.calls.proofs.keep.frame_of.Tie as tie
 
 abbrev Inv-loop : tie.InvT-loop
 Inv-loop out from len bytes₀ i₀ bytes i = (i ≤ len) × (bytes ≡ padTo longestFrame (take i (drop from out)))
