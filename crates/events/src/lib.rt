@@ -93,8 +93,8 @@ pub fn carry(net: Net, a: u8, b: u8, k: usize) -> Moved
 pub fn forge(net: Net, a: u8, b: u8, burst: &[u8]) -> Moved
     ensures { λ r. ⌜ r ≡ moved net (Nets.forge a b (now (burst .entry)) outputRoom) ⌝ }
 {
-    let faulty = net.faulty;
-    if is_good(faulty, a, b) {
+    let links = net.faulty;
+    if is_good(links, a, b) {
         return Moved { refusal: 18, net };
     }
     let receiver = node_at(net, b);
