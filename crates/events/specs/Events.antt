@@ -8,7 +8,7 @@ use Rattle.lists.specs.Choice.{choose, and, or}
 use Rattle.protocol.specs.Net.{Event, starts, carry, forge, at, good, call, eventRefusal, refusal}
 use Rattle.protocol.specs.Net as Nets
 use Rattle.node.specs.declared.Node.{Node}
-use Rattle.node.specs.declared.Told.{Told}
+use Rattle.calls.specs.declared.Told.{Told}
 use Rattle.node.specs.Node.{logOf, heardBy, marked}
 use Rattle.node.specs.Node as Nodes
 use Rattle.net.specs.declared.Net.{Net}

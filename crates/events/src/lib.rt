@@ -1,13 +1,13 @@
 // The events of a history: a start, a carry, a forgery. An event that is turned down, by 16 to 18 or by the base's call, changes nothing.
+use calls::Told;
+use calls::hear;
+use calls::hear_frame;
 use net::Faulty;
 use net::Net;
 use net::links::is_good;
 use net::nodes::node_at;
 use net::nodes::with_node;
 use node::Node;
-use node::Told;
-use node::call::hear;
-use node::call::hear_frame;
 use node::log::broadcast;
 use node::log::broadcasts;
 use node::marks::heard;
@@ -45,7 +45,7 @@ fn reach(net: Net, b: u8, told: Told) -> Moved
 pub fn start(net: Net, b: u8) -> Moved
     ensures { λ r. ⌜ r ≡ moved net (Nets.starts b outputRoom) ⌝ }
 {
-    reach(net, b, node::call::start(node_at(net, b)))
+    reach(net, b, calls::start(node_at(net, b)))
 }
 
 // Numbers 16 and 17, 0 for none.
@@ -93,8 +93,8 @@ pub fn carry(net: Net, a: u8, b: u8, k: usize) -> Moved
 pub fn forge(net: Net, a: u8, b: u8, burst: &[u8]) -> Moved
     ensures { λ r. ⌜ r ≡ moved net (Nets.forge a b (now (burst .entry)) outputRoom) ⌝ }
 {
-    let faulty = net.faulty;
-    if is_good(faulty, a, b) {
+    let links = net.faulty;
+    if is_good(links, a, b) {
         return Moved { refusal: 18, net };
     }
     let receiver = node_at(net, b);

@@ -10,10 +10,8 @@ use Rattle.lists.specs.Lists.{padTo}
 use Rattle.frame.specs.Encoding.{encode}
 use Rattle.protocol.specs.declared.Base.{Base}
 use Rattle.protocol.specs.Steps.{Done}
-use Rattle.protocol.specs.Net.{callRefusal}
 use Rattle.node.specs.declared.Frame.{Frame}
 use Rattle.node.specs.declared.Node.{Node}
-use Rattle.node.specs.declared.Told.{Told}
 pub mod Within
 pub mod Counts
 pub mod Memory
@@ -72,9 +70,6 @@ withBase v b = record { base = b; count = v .count; frames = v .frames; heard = 
 -- a base after a call on its record; a call that is turned down changes nothing
 unfoldable pub after : Node → Done → Node
 after v d = joinedAll (withBase v (d .base)) (map encode (d .says))
-
-unfoldable pub told : Node → Done → Told
-told v d = record { refusal = callRefusal (d .answer); node = after v d }
 
 -- ---- carries
 -- the place of the mark of a's k-th broadcast

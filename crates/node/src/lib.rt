@@ -1,7 +1,5 @@
 // One base of a net as the program keeps it: its record, its broadcasts in the order written, and which broadcasts of the others were carried
 // to it. specs/Node.antt says what it stands for.
-pub mod call;
-mod keep;
 pub mod log;
 pub mod marks;
 
@@ -28,10 +26,4 @@ pub struct Node {
     pub frames: [Frame; MOST_BROADCASTS],
     // 1 where a broadcast was carried to this base: those of base 1, then those of base 2, and so on.
     pub heard: [u8; MARKS],
-}
-
-// A base after a call on its record, beside the number by which the call was turned down, 0 for none.
-pub struct Told {
-    pub refusal: u8,
-    pub node: Node,
 }

@@ -25,8 +25,9 @@ use Rattle.protocol.specs.Net.{Event, starts, carry, forge, at, good, broadcast
 use Rattle.protocol.specs.Net as Nets
 use Rattle.node.specs.declared.Frame.{Frame}
 use Rattle.node.specs.declared.Node.{Node}
-use Rattle.node.specs.declared.Told.{Told}
-use Rattle.node.specs.Node.{logOf, frameAt, written, heardBy, marked, told}
+use Rattle.calls.specs.declared.Told.{Told}
+use Rattle.node.specs.Node.{logOf, frameAt, written, heardBy, marked}
+use Rattle.calls.specs.Calls.{told}
 use Rattle.node.specs.Node as Nodes
 use Rattle.node.specs.Node.Log.{frame-written}
 use Rattle.net.specs.declared.Net.{Net}
