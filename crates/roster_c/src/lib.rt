@@ -16,6 +16,7 @@ ghost use Rattle.writer.specs.Writing.{writtenOf, writeOutput};
 ghost use Rattle.reader.specs.Answers.{readingOf, stretch, idArray};
 ghost use Rattle.protocol.specs.Steps.{arrival, start, stepOf, outputOf, leaderAnswer};
 ghost use Rattle.soundness.specs.Made.{madeOf};
+ghost use Rattle.schedule.specs.Report.{replayLength, replayOutput};
 ghost use Rattle.numbers.specs.Numbers.{outcomeNumbers, leaderNumbers, writtenNumbers, readNumbers};
 
 // An idle record from n, t and the own identifier. Turned down by 1 to 3.
@@ -69,4 +70,12 @@ pub extern "C" fn roster_write(n: usize, kind: u8, ids: &[u32], out: &mut [u8]) 
     ensures { λ r. ⌜ (r ≡ writtenNumbers (writtenOf n kind (now (ids .entry)) (length (now (out .entry))))) × (now (out .exit) ≡ writeOutput n kind (now (ids .entry)) (now (out .entry))) ⌝ }
 {
     written_numbers(writer::write(n, kind, ids, out))
+}
+
+// The report of a schedule. An output with less room than any report may take is left alone, and the length is 0.
+#[no_mangle]
+pub extern "C" fn roster_replay(schedule: &[u8], out: &mut [u8]) -> usize
+    ensures { λ r. ⌜ (r ≡ replayLength (now (schedule .entry)) (now (out .entry))) × (now (out .exit) ≡ replayOutput (now (schedule .entry)) (now (out .entry))) ⌝ }
+{
+    replay::replay(schedule, out)
 }
