@@ -5,7 +5,7 @@ use mathlib.Core.Bool.{Bool, true, false}
 use mathlib.Core.List.{List, [], _∷_, _++_, append-assoc, append-nil}
 use native.Mathlib.Numerals.{add-one}
 use native.Mathlib.Omega.{arith}
-use borrow.Author.Tests.{leb-true, leb-false}
+use borrow.Author.Tests.{leb-true, leb-false, le-leb}
 use lib.Dec.{leb}
 use lib.ListN.{length, getD, take}
 use lib.Seq.{take-suc, take-all}
@@ -13,7 +13,8 @@ use Rattle.lists.specs.Choice.Laws.{choose-yes, choose-no}
 use Rattle.print.specs.Put.{Put}
 use Rattle.print.specs.Decimal.{decimalText}
 use Rattle.lines.specs.Lines.{space}
-use Rattle.schedule.specs.Report.{listText, lineRoom, lineEnd, lineOutput}
+use Rattle.protocol.specs.Net.{Net}
+use Rattle.schedule.specs.Report.{listText, baseLine, baseLines, lineRoom, lineEnd, lineOutput}
 
 -- ---- a list
 list-append : (l m : List ℕ) → listText (l ++ m) ≡ listText l ++ listText m
@@ -57,3 +58,17 @@ take-least n k m l e h = cases (leb n m) refl
     cases : (b : Bool) → leb n m ≡ b → take k l ≡ take n l
     cases true q = let p : k ≡ n = omega (arith, leb-true n m q) in ap (λ (j : ℕ). take j l) p
     cases false q = take-all k l (omega (arith, leb-false n m q)) ∙ sym (take-all n l (omega (arith, leb-false n m q)))
+
+-- where there is room, the line is put
+pub line-there : {out : List ℕ} {at : ℕ} {text after : List ℕ} {end : ℕ} → at + lineRoom ≤ length out → end ≡ lineEnd out at text → after ≡ lineOutput out at text → Put out at text after end
+unfolding lineEnd lineOutput
+line-there {out} {at} room e o = let f = le-leb (at + lineRoom) (length out) room in record { past = e ∙ choose-yes _ _ f; is = o ∙ choose-yes _ _ f }
+
+-- one base more
+pub bases-none : (W : Net) → baseLines 0 W ≡ []
+unfolding baseLines
+bases-none W = refl
+
+pub bases-more : (b : ℕ) (W : Net) → baseLines b W ++ baseLine (b + 1) (W .base (b + 1)) ≡ baseLines (b + 1) W
+unfolding baseLines
+bases-more b W = ap (λ (k : ℕ). baseLines b W ++ baseLine k (W .base k)) (add-one b) ∙ ap (λ (k : ℕ). baseLines k W) (sym (add-one b))

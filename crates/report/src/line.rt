@@ -35,6 +35,7 @@ fn has_room(room: usize, at: usize) -> bool
 fn put_base(out: &mut [u8], at: usize, number: u8, base: Base) -> usize
     requires { ⌜ at + lineRoom ≤ length (now out) ⌝ }
     ensures { λ r. ⌜ Put (now (out .entry)) at (baseLine number base) (now (out .exit)) r ⌝ }
+    ensures { λ r. ⌜ r ≤ at + lineRoom ⌝ }
 {
     let first = put_text(out, at, b"base ");
     let second = put_decimal(out, first, number as u64);
@@ -45,6 +46,7 @@ fn put_base(out: &mut [u8], at: usize, number: u8, base: Base) -> usize
 fn put_waiting(out: &mut [u8], at: usize, count: usize) -> usize
     requires { ⌜ at + lineRoom ≤ length (now out) ⌝ }
     ensures { λ r. ⌜ Put (now (out .entry)) at (waitingLine count) (now (out .exit)) r ⌝ }
+    ensures { λ r. ⌜ r ≤ at + lineRoom ⌝ }
 {
     let first = put_text(out, at, b"waiting ");
     let second = put_decimal(out, first, count as u64);
@@ -54,6 +56,7 @@ fn put_waiting(out: &mut [u8], at: usize, count: usize) -> usize
 fn put_refused(out: &mut [u8], at: usize, number: u8, line: usize) -> usize
     requires { ⌜ at + lineRoom ≤ length (now out) ⌝ }
     ensures { λ r. ⌜ Put (now (out .entry)) at (refusedLine number line) (now (out .exit)) r ⌝ }
+    ensures { λ r. ⌜ r ≤ at + lineRoom ⌝ }
 {
     let first = put_text(out, at, b"refused ");
     let second = put_decimal(out, first, number as u64);
@@ -66,6 +69,7 @@ fn put_refused(out: &mut [u8], at: usize, number: u8, line: usize) -> usize
 pub fn base_line(out: &mut [u8], at: usize, number: u8, base: Base) -> usize
     ensures { λ r. ⌜ r ≡ lineEnd (now (out .entry)) at (baseLine number base) ⌝ }
     ensures { λ r. ⌜ now (out .exit) ≡ lineOutput (now (out .entry)) at (baseLine number base) ⌝ }
+    ensures { λ r. ⌜ r ≤ at + lineRoom ⌝ }
 {
     if has_room(out.len(), at) {
         return put_base(out, at, number, base);
@@ -77,6 +81,7 @@ pub fn base_line(out: &mut [u8], at: usize, number: u8, base: Base) -> usize
 pub fn waiting_line(out: &mut [u8], at: usize, count: usize) -> usize
     ensures { λ r. ⌜ r ≡ lineEnd (now (out .entry)) at (waitingLine count) ⌝ }
     ensures { λ r. ⌜ now (out .exit) ≡ lineOutput (now (out .entry)) at (waitingLine count) ⌝ }
+    ensures { λ r. ⌜ r ≤ at + lineRoom ⌝ }
 {
     if has_room(out.len(), at) {
         return put_waiting(out, at, count);
@@ -88,6 +93,7 @@ pub fn waiting_line(out: &mut [u8], at: usize, count: usize) -> usize
 pub fn refused_line(out: &mut [u8], at: usize, number: u8, line: usize) -> usize
     ensures { λ r. ⌜ r ≡ lineEnd (now (out .entry)) at (refusedLine number line) ⌝ }
     ensures { λ r. ⌜ now (out .exit) ≡ lineOutput (now (out .entry)) at (refusedLine number line) ⌝ }
+    ensures { λ r. ⌜ r ≤ at + lineRoom ⌝ }
 {
     if has_room(out.len(), at) {
         return put_refused(out, at, number, line);

@@ -29,6 +29,7 @@ module _ (a b : Link) (some : a .announce ≡ 0 → ⊥) (other : b .announce �
 pub sum-grows : (f : ℕ → ℕ) (j start total term : ℕ) → total ≡ start + sum j f → term ≡ f j → total + term ≡ start + sum (j + 1) f
 sum-grows f j start total term e t = omega (arith, sum-next j f)
 
-pub pairs-grow : (f : ℕ → ℕ → ℕ) (i j start total own : ℕ) → start ≡ sum i (λ m. sum m (λ k. f m k)) + own → total ≡ start + sum j (λ k. f i k) → j ≡ i
-    → total ≡ sum (i + 1) (λ m. sum m (λ k. f m k)) + own
-pairs-grow f i j start total own s e q = omega (arith, sum-next i (λ m. sum m (λ k. f m k)), ap (λ (n : ℕ). sum n (λ k. f i k)) q)
+-- the place i adds its own pair, a term, and its pairs with the j places before it
+pub pairs-grow : (f : ℕ → ℕ → ℕ) (g : ℕ → ℕ) (i j start term total : ℕ) → start ≡ sum i (λ m. sum m (λ k. f m k)) + sum i g → term ≡ g i → total ≡ start + term + sum j (λ k. f i k) → j ≡ i
+    → total ≡ sum (i + 1) (λ m. sum m (λ k. f m k)) + sum (i + 1) g
+pairs-grow f g i j start term total s t e q = omega (arith, sum-next i (λ m. sum m (λ k. f m k)), sum-next i g, ap (λ (n : ℕ). sum n (λ k. f i k)) q)

@@ -6,10 +6,8 @@ use held::holds_verify;
 use lists::holds;
 use protocol::Base;
 use protocol::Link;
-ghost use Prim.Native.Nat.{_≤_};
 ghost use mathlib.Core.Path.{_≡_};
-ghost use Rattle.limits.specs.Limits.{mostLinks};
-ghost use Rattle.protocol.specs.Record.{links, suspectPair, suspectOwn, suspects};
+ghost use Rattle.protocol.specs.Record.{suspectPair, suspectOwn, suspects};
 
 fn suspect_pair(a: Link, b: Link) -> bool
     ensures { λ r. ⌜ r ≡ suspectPair a b ⌝ }
@@ -37,9 +35,9 @@ fn suspect_own(own: u32, link: Link) -> bool
     false
 }
 
-// The suspect pairs with the own identifier: only the other's link is looked at.
-fn own_suspects(base: Base) -> usize
-    ensures { λ r. ⌜ (r ≡ links base (suspectOwn (base .own))) × (r ≤ mostLinks) ⌝ }
+// Each link is read once for its pair with the own identifier, of which only the other's link is looked at, and for its pairs with the links before it.
+pub fn suspect_count(base: Base) -> usize
+    ensures { λ r. ⌜ r ≡ suspects base ⌝ }
 {
     let k = link_count(base.n);
     let own = base.own;
@@ -48,19 +46,6 @@ fn own_suspects(base: Base) -> usize
     while i < k {
         let link = base.links[i];
         count += one(suspect_own(own, link));
-        i += 1;
-    }
-    count
-}
-
-pub fn suspect_count(base: Base) -> usize
-    ensures { λ r. ⌜ r ≡ suspects base ⌝ }
-{
-    let k = link_count(base.n);
-    let mut count = own_suspects(base);
-    let mut i: usize = 0;
-    while i < k {
-        let link = base.links[i];
         let mut j: usize = 0;
         while j < i {
             let other = base.links[j];

@@ -1,3 +1,4 @@
+-- `print::put_decimal` meets its contract: what put_text ensures of the digits at the array's end.
 use native.Mathlib.Omega.{arith}
 use mathlib.Core.Path.{_≡_, ap, _∙_}
 use mathlib.Core.List.{List}

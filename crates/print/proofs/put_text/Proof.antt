@@ -1,3 +1,4 @@
+-- `print::put_text` meets its contract. Invariant: the first j bytes are put.
 use native.Mathlib.Omega.{arith}
 use borrow.Author.Needs.{needs}
 use Prim.Native.Nat.{_+_, _-_, _≤_}

@@ -39,7 +39,7 @@ pub record Begins (k : ℕ) (st : Story) : Type 0 where
   pub net : st .net ≡ idleNet (st .n) (st .t) id
 
 -- ---- `net n t`
-size-passed : (n t : ℕ) → sizeRefusal n t ≡ 0 → NetSize n × (t ≤ mostFaulty n)
+pub size-passed : (n t : ℕ) → sizeRefusal n t ≡ 0 → NetSize n × (t ≤ mostFaulty n)
 unfolding sizeRefusal
 size-passed n t e =
     let p = first-passed (netRefusal n) (choose (ltb (mostFaulty n) t) 2 0) e in
@@ -176,7 +176,7 @@ ids-begin s m (suc k) st l before = id-begins s m k (idSteps s k st) l (ids-begi
 abbrev pub Whole : Story → Type 0
 Whole st = Begins (st .n) st
 
-faulty-passed : (t : ℕ) (faulty : List Pair) → faultyRefusal t faulty ≡ 0 → length faulty < t
+pub faulty-passed : (t : ℕ) (faulty : List Pair) → faultyRefusal t faulty ≡ 0 → length faulty < t
 unfolding faultyRefusal
 faulty-passed t faulty e = leb-false t (length faulty) (passed (leb t (length faulty)) 14 0 e .0)
 
@@ -200,7 +200,7 @@ faulty-begins s st before =
     (λ _. judged-owes Whole (faultyRefusal (st .t) (st .faulty)) st (withFaulty a b (onward next st)) (λ e _. marked-begins a b next st e (before none)))))
 
 -- ---- the whole header
-ids-whole : (s : List ℕ) → Unrefused Whole (idSteps s (netStep s unread .n) (netStep s unread))
+pub ids-whole : (s : List ℕ) → Unrefused Whole (idSteps s (netStep s unread .n) (netStep s unread))
 ids-whole s e =
     let sized = netStep s unread in
     let g = ids-begin s (sized .n) (sized .n) sized (omega arith) (λ q. (net-begins s q, refl)) e in

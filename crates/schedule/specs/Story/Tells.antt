@@ -4,9 +4,9 @@ use mathlib.Core.Path.{_≡_, refl, sym, ap, _∙_, subst}
 use mathlib.Core.Bool.{true}
 use mathlib.Core.List.{List, [], _∷_, _++_}
 use native.Mathlib.Omega.{arith}
-use lib.Dec.{leb}
+use lib.Dec.{leb, ltb}
 use lib.ListN.{length, drop}
-use Rattle.limits.specs.Limits.{outputRoom}
+use Rattle.limits.specs.Limits.{outputRoom, longestSchedule}
 use Rattle.lists.specs.Choice.Laws.{choose-ind}
 use Rattle.text.specs.Hex.{hexBytes}
 use Rattle.text.specs.Hex.Range.{bytes-below}
@@ -17,8 +17,8 @@ use Rattle.lines.specs.Lines.Laws.{base-range, two-range}
 use Rattle.lines.specs.Lines.Told.{EventTold, event-told}
 use Rattle.protocol.specs.Net.{Net, Pair, Event, starts, carry, forge, eventRefusal, happens, run}
 use Rattle.protocol.specs.Agreement.{BaseOf, Proper, AllProper}
-use Rattle.schedule.specs.Story.{Story, onward, withNet, eventStep, lineStep, nextLine, wholeStory, header}
-use Rattle.schedule.specs.Story.Laws.{Unrefused, refuse-owes, judged-owes, unless-owes, repeat-ind}
+use Rattle.schedule.specs.Story.{Story, refuse, onward, withNet, eventStep, lineStep, nextLine, repeat, wholeStory, header, meaning}
+use Rattle.schedule.specs.Story.Laws.{Unrefused, refuse-owes, judged-owes, unless-ind, unless-owes, repeat-ind}
 
 -- ---- one event more at the end of a history
 pub run-more : (faulty : List Pair) (W : Net) (es : List Event) (e : Event) → run faulty W (es ++ (e ∷ [])) ≡ happens faulty (run faulty W es) e
@@ -87,7 +87,27 @@ next-tells s begin st before =
     choose-ind (Unrefused (Tells begin)) (leb (length s) (st .at)) (λ _. before)
     (λ _. line-tells s begin st (st .at) (eventLine (st .n) s (st .at)) (event-told (st .n) s (st .at)) (before none)))
 
+-- ---- many lines
+pub lines-tell : (s : List ℕ) (begin : Story) (k : ℕ) → Unrefused (Tells begin) (repeat k (nextLine s) begin)
+lines-tell s begin k = repeat-ind (Unrefused (Tells begin)) (nextLine s) (λ st p. next-tells s begin st p) k begin (λ _. tells-none begin)
+
+-- a line that is turned down stays so
+next-unrefused : (s : List ℕ) (st : Story) → nextLine s st .refusal ≡ 0 → st .refusal ≡ 0
+unfolding nextLine
+next-unrefused s st = unless-ind (λ x. x .refusal ≡ 0 → st .refusal ≡ 0) st _ (λ e _. e) (λ _ e. e)
+
+pub lines-unrefused : (s : List ℕ) (begin : Story) (k : ℕ) → repeat k (nextLine s) begin .refusal ≡ 0 → begin .refusal ≡ 0
+lines-unrefused s begin k = repeat-ind (λ x. x .refusal ≡ 0 → begin .refusal ≡ 0) (nextLine s) (λ st before e. before (next-unrefused s st e)) k begin (λ e. e)
+
 -- ---- the whole schedule
 pub story-tells : (s : List ℕ) → Unrefused (Tells (header s)) (wholeStory s)
 unfolding wholeStory
-story-tells s = repeat-ind (Unrefused (Tells (header s))) (nextLine s) (λ st p. next-tells s (header s) st p) (length s) (header s) (λ _. tells-none (header s))
+story-tells s = lines-tell s (header s) (length s)
+
+pub header-unrefused : (s : List ℕ) → wholeStory s .refusal ≡ 0 → header s .refusal ≡ 0
+unfolding wholeStory
+header-unrefused s = lines-unrefused s (header s) (length s)
+
+pub meaning-whole : (s : List ℕ) → meaning s .refusal ≡ 0 → meaning s ≡ wholeStory s
+unfolding meaning refuse
+meaning-whole s = choose-ind (λ x. x .refusal ≡ 0 → x ≡ wholeStory s) (ltb longestSchedule (length s)) (λ _ e. absurd (omega arith)) (λ _ _. refl)

@@ -5,11 +5,8 @@ use mathlib.Core.Bool.{Bool, true, false}
 use mathlib.Core.List.{List, _++_}
 use native.Mathlib.Omega.{arith}
 use borrow.Author.Tests.{eqb-false}
-use lib.Dec.{eqb, ltb}
-use lib.ListN.{length}
-use Rattle.limits.specs.Limits.{longestSchedule}
+use lib.Dec.{eqb}
 use Rattle.lists.specs.Choice.{choose}
-use Rattle.lists.specs.Choice.Laws.{choose-ind}
 use Rattle.lists.specs.Lists.{sort}
 use Rattle.print.specs.Decimal.{decimalText}
 use Rattle.protocol.specs.declared.Base.{Base}
@@ -17,27 +14,12 @@ use Rattle.protocol.specs.Record.{finalList}
 use Rattle.protocol.specs.Steps.{leaderOf}
 use Rattle.protocol.specs.Net.{Net, Pair, run, waiting}
 use Rattle.protocol.specs.Agreement.{BaseOf, trueIdentifiers}
-use Rattle.schedule.specs.Story.{Story, refuse, nextLine, wholeStory, header, meaning}
-use Rattle.schedule.specs.Story.Laws.{unless-ind, repeat-ind}
+use Rattle.schedule.specs.Story.{Story, wholeStory, header}
 use Rattle.schedule.specs.Story.Begins.{Whole, header-begins, begins-setting, begins-fresh}
-use Rattle.schedule.specs.Story.Tells.{Tells, story-tells}
+use Rattle.schedule.specs.Story.Tells.{Tells, story-tells, header-unrefused, meaning-whole}
 use Rattle.schedule.specs.Report.{primeText, secondaryText, listText, leaderText, finalText, stateText}
 use Rattle.schedule.specs.Theorem.{givenIds, rosterText, agreedText, ReportAgrees}
 use Rattle.schedule.specs.Theorem.Histories.{state-most, final-by, leader-by, ends-by}
-
--- ---- a line that is turned down stays so
-next-unrefused : (s : List ℕ) (st : Story) → nextLine s st .refusal ≡ 0 → st .refusal ≡ 0
-unfolding nextLine
-next-unrefused s st = unless-ind (λ x. x .refusal ≡ 0 → st .refusal ≡ 0) st _ (λ e _. e) (λ _ e. e)
-
-header-unrefused : (s : List ℕ) → wholeStory s .refusal ≡ 0 → header s .refusal ≡ 0
-unfolding wholeStory
-header-unrefused s =
-    repeat-ind (λ x. x .refusal ≡ 0 → header s .refusal ≡ 0) (nextLine s) (λ st before e. before (next-unrefused s st e)) (length s) (header s) (λ e. e)
-
-meaning-whole : (s : List ℕ) → meaning s .refusal ≡ 0 → meaning s ≡ wholeStory s
-unfolding meaning refuse
-meaning-whole s = choose-ind (λ x. x .refusal ≡ 0 → x ≡ wholeStory s) (ltb longestSchedule (length s)) (λ _ e. absurd (omega arith)) (λ _ _. refl)
 
 -- ---- the text of a base
 choose-same : {A : Type 0} (t : Bool) {a b c d : A} → (t ≡ true → a ≡ c) → (t ≡ false → b ≡ d) → choose t a b ≡ choose t c d

@@ -2,16 +2,17 @@
 use Prim.Native.Nat.{ℕ, zero, suc, _+_, _*_, _-_, _≤_, _<_, min}
 use mathlib.Core.Path.{_≡_, refl, sym, ap, ap₂, _∙_}
 use mathlib.Core.Bool.{true, false}
-use mathlib.Core.List.{List, [], _∷_, _++_, append-assoc}
+use mathlib.Core.List.{List, [], _∷_, _++_}
 use native.Mathlib.Omega.{arith}
 use native.Mathlib.Numerals.{add-one}
 use borrow.Author.Tests.{eq-eqb, ne-eqb}
-use lib.ListN.{length, getD, drop, take, set, replicate, drop-of-length-le, length-drop, length-append}
-use lib.Seq.{take-at, getD-drop, set-at}
+use lib.ListN.{length, getD, drop, take, set, replicate, drop-of-length-le, length-drop}
+use lib.Seq.{getD-drop}
 use Rattle.limits.specs.Limits.{longestBurst}
 use Rattle.lists.specs.Choice.{and}
 use Rattle.lists.specs.Choice.Laws.{choose-yes, choose-no, and-both, and-no}
 use Rattle.lists.specs.Lists.{padTo}
+use Rattle.lists.specs.Lists.Laws.{length-pad, pad-front, pad-next}
 use Rattle.text.specs.declared.hex.Hex.the-variants.{Bytes, Bad}
 use Rattle.text.specs.Rest.{drop-one}
 use Rattle.text.specs.Hex.{isHex, hexPair, hexFrom, hexBytes, hexArray}
@@ -89,13 +90,6 @@ bytes-short (suc m) (suc k) (a ∷ []) l h = refl
 bytes-short (suc m) (suc k) (a ∷ (b ∷ rest)) l h = ap (λ (r : List ℕ). hexPair a b ∷ r) (bytes-short m k rest (omega arith) (omega arith))
 
 -- ---- in their array
--- one place more of an array that is filled from its front
-pub pad-more : (places : ℕ) (l : List ℕ) (i x : ℕ) → length l ≡ i → i < places → set (padTo places l) i x ≡ padTo places (l ++ (x ∷ []))
-unfolding padTo
-pad-more places l i x e h =
-    let d : places - length l ≡ suc (places - length (l ++ (x ∷ []))) = omega (arith, length-append l (x ∷ [])) in
-    ap (λ (k : ℕ). set (l ++ replicate k 0) i x) d ∙ set-at l 0 (replicate (places - length (l ++ (x ∷ []))) 0) x i e ∙ sym (simp append-assoc)
-
 -- what the array holds after i bytes
 pub array-none : (s : List ℕ) (p : ℕ) → replicate longestBurst 0 ≡ padTo longestBurst (hexBytes 0 (drop p s))
 unfolding hexBytes padTo
@@ -109,7 +103,7 @@ array-more s at i p {array} {x} l here h e is =
     let byte : hexPair (getD (drop at s) (2 * i) 0) (getD (drop at s) (2 * i + 1) 0) ≡ x =
     ap₂ hexPair (getD-drop at s (2 * i) 0 ∙ ap (λ (j : ℕ). getD s j 0) (sym first)) (getD-drop at s (2 * i + 1) 0 ∙ ap (λ (j : ℕ). getD s j 0) (sym second)) ∙ sym is in
     ap (λ (a : List ℕ). set a i x) e
-    ∙ pad-more longestBurst (hexBytes i (drop at s)) i x (length-bytes i (drop at s) (omega (arith, length-drop at s))) l
+    ∙ pad-next longestBurst (hexBytes i (drop at s)) i x (length-bytes i (drop at s) (omega (arith, length-drop at s))) l
     ∙ ap (padTo longestBurst) (sym (ap (λ (k : ℕ). hexBytes k (drop at s)) (add-one i) ∙ bytes-more i (drop at s) (omega (arith, length-drop at s))
     ∙ ap (λ (y : ℕ). hexBytes i (drop at s) ++ (y ∷ [])) byte))
 
@@ -128,7 +122,18 @@ array-short s p k i l m h =
 
 -- the front of the array, where the text has so many bytes
 pub array-front : (s : List ℕ) (p k : ℕ) → k ≤ longestBurst → 2 * k ≤ length (drop p s) → take k (hexArray s p k) ≡ hexBytes k (drop p s)
-unfolding hexArray padTo
+unfolding hexArray
 array-front s p k l h =
     let e : min k longestBurst ≡ k = omega arith in
-    ap (λ (j : ℕ). take k (padTo longestBurst (hexBytes j (drop p s)))) e ∙ take-at (hexBytes k (drop p s)) _ k (length-bytes k (drop p s) h)
+    ap (λ (j : ℕ). take k (padTo longestBurst (hexBytes j (drop p s)))) e ∙ pad-front longestBurst (hexBytes k (drop p s)) k (length-bytes k (drop p s) h)
+
+few-bytes : (k : ℕ) (rest : List ℕ) → length (hexBytes k rest) ≤ k
+unfolding hexBytes
+few-bytes zero rest = omega arith
+few-bytes (suc k) [] = omega arith
+few-bytes (suc k) (a ∷ []) = omega arith
+few-bytes (suc k) (a ∷ (b ∷ rest)) = omega (arith, few-bytes k rest)
+
+pub length-array : (s : List ℕ) (p k : ℕ) → length (hexArray s p k) ≡ longestBurst
+unfolding hexArray
+length-array s p k = length-pad longestBurst (hexBytes (min k longestBurst) (drop p s)) (omega (arith, few-bytes (min k longestBurst) (drop p s)))

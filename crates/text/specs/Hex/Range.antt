@@ -1,12 +1,10 @@
 -- Bytes in hexadecimal that were read: no more than a burst may have, each below 256, and two digits of the text for each.
 use Prim.Native.Nat.{ℕ, zero, suc, _+_, _*_, _-_, _≤_, _<_}
-use mathlib.Core.Path.{_≡_, refl, sym, ap, _∙_, subst}
-use mathlib.Core.Bool.{Bool, true, false}
 use mathlib.Core.List.{List, [], _∷_}
 use native.Mathlib.Omega.{arith}
 use borrow.Author.Tests.{leb-true, ltb-false}
 use lib.Dec.{eqb, ltb, leb}
-use lib.ListN.{length, getD, drop}
+use lib.ListN.{length, drop}
 use Rattle.limits.specs.Limits.{longestBurst}
 use Rattle.lists.specs.Choice.{and}
 use Rattle.lists.specs.Choice.Laws.{choose-ind, and-true}

@@ -1,3 +1,4 @@
+-- `print::decimal::decimal` meets its contract. Invariant: the digits of the rest, and behind them the array from `start` on, are the number's.
 use native.Mathlib.Omega.{arith}
 use borrow.Author.Needs.{needs}
 use Prim.Native.Nat.{ℕ, _≤_}

@@ -38,7 +38,9 @@ returns c = let few = few-digits 2 (c .before .before .before .before .before .b
     let A = put-fits (omega arith) (c .before .before .before .before .before .before .before .before .before .before .before .before .before .before .before .put-text .ensures .0) (c .before .before .before .before .before .before .before .before .before .before .before .before .before .before .before .put-text .ensures .1) in
     let B = put-next (decimalText (c .before .before .before .before .before .before .before .before .before .before .before .before .before .before .before .before .before .before .before .args .number)) A (omega (arith, A .past)) (c .before .before .before .before .before .before .before .before .before .before .before .put-decimal .ensures .0) (c .before .before .before .before .before .before .before .before .before .before .before .put-decimal .ensures .1) in
     let far = step (decimalText (c .before .before .before .before .before .before .before .before .before .before .before .before .before .before .before .before .before .before .before .args .number)) A B in
-    put-next feed (put-then B (c .before .before .before .before .before .before .before .put-state .ensures .0)) (omega (arith, A .past, far, c .before .before .before .before .before .before .before .put-state .ensures .1)) (c .before .before .put-text2 .ensures .0) (c .before .before .put-text2 .ensures .1)
+    let C = put-then B (c .before .before .before .before .before .before .before .put-state .ensures .0) in
+    let P = put-next feed C (omega (arith, A .past, far, c .before .before .before .before .before .before .before .put-state .ensures .1)) (c .before .before .put-text2 .ensures .0) (c .before .before .put-text2 .ensures .1) in
+    (P, omega (arith, A .past, far, c .before .before .before .before .before .before .before .put-state .ensures .1, step feed C P))
 
 pub put-base-spec : {M : Type 1} → statement M
 put-base-spec =

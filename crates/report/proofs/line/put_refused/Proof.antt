@@ -44,7 +44,9 @@ returns c = let few = most-digits (c .before .before .before .before .before .be
     let C = put-next lineText B (omega (arith, A .past, b)) (c .before .before .before .before .before .before .before .before .before .before .before .put-text2 .ensures .0) (c .before .before .before .before .before .before .before .before .before .before .before .put-text2 .ensures .1) in
     let d = step lineText B C in
     let D = put-next (decimalText (c .before .before .before .before .before .before .before .before .before .before .before .before .before .before .before .before .before .before .before .before .before .before .before .before .args .line)) C (omega (arith, A .past, b, d)) (c .before .before .before .before .before .before .before .put-decimal2 .ensures .0) (c .before .before .before .before .before .before .before .put-decimal2 .ensures .1) in
-    put-next feed D (omega (arith, A .past, b, d, step (decimalText (c .before .before .before .before .before .before .before .before .before .before .before .before .before .before .before .before .before .before .before .before .before .before .before .before .args .line)) C D)) (c .before .before .put-text3 .ensures .0) (c .before .before .put-text3 .ensures .1)
+    let far = step (decimalText (c .before .before .before .before .before .before .before .before .before .before .before .before .before .before .before .before .before .before .before .before .before .before .before .before .args .line)) C D in
+    let P = put-next feed D (omega (arith, A .past, b, d, far)) (c .before .before .put-text3 .ensures .0) (c .before .before .put-text3 .ensures .1) in
+    (P, omega (arith, A .past, b, d, far, step feed D P))
 
 pub put-refused-spec : {M : Type 1} → statement M
 put-refused-spec =

@@ -1,4 +1,5 @@
 -- `report::line::refused_line` meets its contract: where there is room for any line, what put_refused ensures.
+use native.Mathlib.Omega.{arith}
 use denote.Ref.{now}
 use borrow.Author.Needs.{needs}
 use mathlib.Core.Path.{sym, _∙_}
@@ -16,10 +17,10 @@ same-length : tie.Need-same-length
 same-length c = search needs
 
 returns : tie.Need-returns
-returns c = line-put (sym (c .before .before .before .before .before .has-room .ensures) ∙ c .before .before .before .before .if1 .taken) (c .before .before .put-refused .ensures)
+returns c = let p = line-put (sym (c .before .before .before .before .before .has-room .ensures) ∙ c .before .before .before .before .if1 .taken) (c .before .before .put-refused .ensures .0) in (p .0, (p .1, c .before .before .put-refused .ensures .1))
 
 returns-2 : tie.Need-returns-2
-returns-2 c = line-not-put _ _ _ (sym (c .before .has-room .ensures) ∙ c .if1 .left)
+returns-2 c = let p = line-not-put (now (c .before .before .before .args .out)) (c .before .before .before .args .at) _ (sym (c .before .has-room .ensures) ∙ c .if1 .left) in (p .0, (p .1, omega arith))
 
 pub refused-line-spec : {M : Type 1} → statement M
 refused-line-spec =

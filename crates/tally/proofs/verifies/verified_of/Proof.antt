@@ -3,7 +3,7 @@ use Prim.Native.Nat.{ℕ, _≤_, _+_}
 use mathlib.Core.Path.{_≡_, sym, ap, _∙_}
 use native.Mathlib.Omega.{arith}
 use borrow.Author.Needs.{needs}
-use lib.ListN.{length, take, drop, getD}
+use lib.ListN.{length, take, drop}
 use Rattle.tally.proofs.Swap.{sum-back, sum-end}
 use Rattle.protocol.specs.Links.{holdsVerify, verifiesOf}
 use Rattle.lists.specs.Lists.{sumOver}

@@ -1,0 +1,71 @@
+-- `replay::output::put_bases` meets its contract. Invariant: the lines of the bases 1 to b are put.
+use native.Mathlib.Omega.{arith}
+use borrow.Author.Needs.{needs}
+use Prim.Native.Nat.{ℕ, _+_, _*_, _-_, _≤_}
+use mathlib.Core.Path.{_≡_, refl, sym, ap, _∙_, subst}
+use mathlib.Core.List.{_++_}
+use lib.ListN.{length}
+use Rattle.print.specs.Put.{Put}
+use Rattle.print.specs.Put.Laws.{put-none, put-as, put-then}
+use Rattle.protocol.specs.declared.Base.{Base}
+use Rattle.net.specs.Shown.{shown}
+use Rattle.schedule.specs.Report.{lineRoom, baseLine, baseLines}
+use Rattle.report.specs.Laws.{line-there, bases-none, bases-more}
+use Rattle.replay.proofs.output.put_bases.Statement.{statement}
+use Rattle.replay.proofs.output.put_bases.Tie as tie
+
+abbrev Inv-loop : tie.InvT-loop
+Inv-loop net n out₀ at₀ b₀ out at b = (b ≤ n) × ((at ≤ lineRoom * b) × ((length out ≡ length out₀) × Put out₀ 0 (baseLines b (shown net)) out at))
+
+abbrev μ-loop : tie.MeasureT-loop
+μ-loop net n out₀ at₀ b₀ out at b = n - b
+
+loop-holds : tie.Need-loop-holds Inv-loop μ-loop
+loop-holds c = (omega arith, (omega arith, (refl, put-as (sym (bases-none (shown (c .before .args .net)))) (put-none _ _))))
+
+add-b : tie.Need-add-b Inv-loop μ-loop
+add-b c = omega arith
+
+base-of-requires : tie.Need-base-of-requires Inv-loop μ-loop
+base-of-requires c κs = search needs
+
+base-line-requires : tie.Need-base-line-requires Inv-loop μ-loop
+base-line-requires c κs = search needs
+
+loop-less : tie.Need-loop-less Inv-loop μ-loop
+loop-less c = omega arith
+
+loop-again : tie.Need-loop-again Inv-loop μ-loop
+loop-again c = let I = c .before .before .before .before .before .before .loop .inv in
+    let P = line-there (omega (arith, I .1 .0, I .1 .1 .0, c .before .before .before .before .before .before .before .before .pre .0, c .before .before .before .before .before .before .before .before .pre .1, c .before .before .before .before .before .loop-test .taken)) (c .before .before .base-line .ensures .0) (c .before .before .base-line .ensures .1 .0) in (
+      omega arith,
+      (
+        omega (arith, I .1 .0, c .before .before .base-line .ensures .1 .1),
+        (
+          c .before .before .base-line .kept .0 ∙ I .1 .1 .0,
+          put-as (ap (λ (x : Base). baseLines (c .before .before .before .before .before .before .loop .b) (shown (c .before .before .before .before .before .before .before .before .args .net)) ++ baseLine (c .before .before .before .before .before .before .loop .b + 1) x) (c .before .before .before .base-of .ensures) ∙ bases-more _ _) (put-then (I .1 .1 .1) P),
+        ),
+      ),
+    )
+
+same-length : tie.Need-same-length Inv-loop μ-loop
+same-length c = c .before .loop .inv .1 .1 .0
+
+returns : tie.Need-returns Inv-loop μ-loop
+returns c = let e : c .before .loop .b ≡ c .before .before .before .args .n = omega (arith, c .before .loop .inv .0, c .loop-test .left) in
+    (put-as (ap (λ (k : ℕ). baseLines k (shown (c .before .before .before .args .net))) e) (c .before .loop .inv .1 .1 .1), subst (λ (k : ℕ). c .before .loop .at ≤ lineRoom * k) e (c .before .loop .inv .1 .0))
+
+pub put-bases-spec : {M : Type 1} → statement M
+put-bases-spec =
+    tie.close
+    (tie.spec
+    Inv-loop
+    μ-loop
+    loop-holds
+    add-b
+    base-of-requires
+    base-line-requires
+    loop-less
+    loop-again
+    same-length
+    returns)

@@ -1,0 +1,43 @@
+// One call from a schedule's bytes to the report: the state of every base at the end, or the first line that is turned down.
+mod header;
+mod history;
+mod output;
+mod play;
+
+use crate::header::play_header;
+use crate::history::play_history;
+use crate::output::put_report;
+use crate::play::Play;
+use crate::play::refuse;
+use crate::play::unread;
+use limits::LONGEST_SCHEDULE;
+use limits::MOST_BASES;
+use report::line::LINE_ROOM;
+ghost use mathlib.Core.Path.{_≡_};
+ghost use Rattle.schedule.specs.Report.{replayLength, replayOutput};
+ghost use Rattle.replay.specs.Play.{wholePlay};
+
+// Room for any report.
+pub const REPORT_ROOM: usize = (MOST_BASES + 1) * LINE_ROOM;
+
+// A schedule, read to its end or to the first line that is turned down.
+fn play_whole(schedule: &[u8]) -> Play
+    ensures { λ r. ⌜ r ≡ wholePlay (now (schedule .entry)) ⌝ }
+{
+    if LONGEST_SCHEDULE < schedule.len() {
+        return refuse(unread(), 13);
+    }
+    play_history(schedule, play_header(schedule))
+}
+
+// The report of a schedule at the front of an output, and its length. An output with less room than any report may take is left alone, and the
+// length is 0.
+pub fn replay(schedule: &[u8], out: &mut [u8]) -> usize
+    ensures { λ r. ⌜ r ≡ replayLength (now (schedule .entry)) (now (out .entry)) ⌝ }
+    ensures { λ r. ⌜ now (out .exit) ≡ replayOutput (now (schedule .entry)) (now (out .entry)) ⌝ }
+{
+    if out.len() < REPORT_ROOM {
+        return 0;
+    }
+    put_report(play_whole(schedule), out)
+}

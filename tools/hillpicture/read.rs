@@ -1,0 +1,250 @@
+//! A trace's text, read line by line. Whatever is not a line of a trace, or not in its place, is named by its line number.
+
+use crate::trace::{Broadcast, Cause, Check, End, Event, Hearing, Message, Net, Outcome, State, Stop, Trace, LEAST_CORRECT_FINALS};
+
+pub struct Wrong {
+    /// Of the trace, from 1; one past the last where something is missing.
+    pub line: usize,
+    pub what: String,
+}
+
+pub fn read(text: &str) -> Result<Trace, Wrong> {
+    let mut reader = Reader::default();
+    let mut last = 0;
+    for (i, line) in text.lines().enumerate() {
+        last = i + 1;
+        reader.take(line).map_err(|what| Wrong { line: last, what: format!("{what}: {}", quoted(line)) })?;
+    }
+    reader.finish().map_err(|what| Wrong { line: last + 1, what })
+}
+
+/// The line in one line of plain text, not too long.
+fn quoted(line: &str) -> String {
+    const MOST: usize = 60;
+    let start: String = line.chars().take(MOST).collect();
+    format!("{start:?}{}", if line.chars().count() > MOST { " ..." } else { "" })
+}
+
+const NO_TRACE_LINE: &str = "not a line of a trace";
+
+#[derive(Default)]
+struct Reader {
+    /// Lines of the schedule read so far.
+    lines: usize,
+    net: Option<Net>,
+    ids: Vec<u32>,
+    faulty: Vec<(usize, usize)>,
+    events: Vec<Event>,
+    report: Vec<State>,
+    end: Option<End>,
+}
+
+type Taken = Result<(), String>;
+
+impl Reader {
+    fn take(&mut self, line: &str) -> Taken {
+        if self.end.is_some() {
+            return Err("nothing follows the trace's last line".to_string());
+        }
+        if let Some(told) = line.strip_prefix("  ") {
+            return self.take_told(told);
+        }
+        self.event_is_whole()?;
+        if let Some(rest) = line.strip_prefix("line ") {
+            return self.take_schedule_line(rest, line);
+        }
+        self.take_end(line).ok_or_else(|| NO_TRACE_LINE.to_string())
+    }
+
+    fn take_schedule_line(&mut self, rest: &str, whole: &str) -> Taken {
+        let (number, schedule) = rest.split_once(": ").ok_or(NO_TRACE_LINE)?;
+        self.lines += 1;
+        if number.parse() != Ok(self.lines) || !self.report.is_empty() {
+            return Err(format!("the schedule's line {} is expected", self.lines));
+        }
+        let words: Vec<&str> = schedule.split(' ').collect();
+        self.take_header(&words).or_else(|| self.take_event(&words, whole)).ok_or_else(|| NO_TRACE_LINE.to_string())
+    }
+
+    fn take_header(&mut self, words: &[&str]) -> Option<()> {
+        match (words, self.net) {
+            (["net", n, t], None) => {
+                let net = Net { n: n.parse().ok()?, t: t.parse().ok()? };
+                self.net = ((2..=16).contains(&net.n) && 2 * net.t + 2 <= net.n).then_some(net);
+                self.net.map(|_| ())
+            }
+            (["id", b, v], Some(net)) => {
+                let in_turn = self.ids.len() < net.n && b.parse() == Ok(self.ids.len() + 1);
+                self.ids.push(v.parse().ok()?);
+                in_turn.then_some(())
+            }
+            (["faulty", a, b], Some(_)) if self.has_ids() && self.events.is_empty() => {
+                self.faulty.push((self.base(a)?, self.base(b)?));
+                Some(())
+            }
+            _ => None,
+        }
+    }
+
+    fn take_event(&mut self, words: &[&str], whole: &str) -> Option<()> {
+        if !self.has_ids() {
+            return None;
+        }
+        let (cause, at) = match *words {
+            ["start", b] => (Cause::Start, self.base(b)?),
+            ["carry", a, b, k] => (Cause::Carry { from: self.base(a)?, number: k.parse().ok()? }, self.base(b)?),
+            ["forge", a, b, _] => (Cause::Forge { from: self.base(a)? }, self.base(b)?),
+            _ => return None,
+        };
+        let told = vec![whole.to_string()];
+        let line = self.lines;
+        let event = Event { line, cause, at, starts: false, hearing: None, broadcasts: Vec::new(), check: None, stop: None, told };
+        let between_two = event.from() != Some(at);
+        self.events.push(event);
+        between_two.then_some(())
+    }
+
+    /// An indented line: what an event did.
+    fn take_told(&mut self, told: &str) -> Taken {
+        let (Some(net), Some(event)) = (self.net, self.events.last_mut()) else { return Err("no start, carry or forgery stands before it".to_string()) };
+        if !self.report.is_empty() {
+            return Err(NO_TRACE_LINE.to_string());
+        }
+        event.told.push(told.to_string());
+        let about = format!("base {}", event.at);
+        let rest = told.strip_prefix(&about).filter(|rest| rest.starts_with([' ', ','])).ok_or_else(|| format!("a line about {about} is expected"))?;
+        let rest = rest.trim_start_matches([',', ' ']);
+        take_outcome(event, net, rest).ok_or_else(|| NO_TRACE_LINE.to_string())
+    }
+
+    /// The report's lines, or `refused N line L`.
+    fn take_end(&mut self, line: &str) -> Option<()> {
+        let words: Vec<&str> = line.split(' ').collect();
+        match words[..] {
+            ["refused", number, "line", line] if self.report.is_empty() => {
+                self.end = Some(End::Refused { number: number.parse().ok()?, line: line.parse().ok()? });
+            }
+            ["base", b, ref state @ ..] if self.has_ids() => {
+                let in_turn = self.report.len() < self.ids.len() && b.parse() == Ok(self.report.len() + 1);
+                self.report.push(state_of(state, self.ids.len())?);
+                return in_turn.then_some(());
+            }
+            ["waiting", waiting] if self.has_ids() && self.report.len() == self.ids.len() => {
+                self.end = Some(End::Report { bases: std::mem::take(&mut self.report), waiting: waiting.parse().ok()? });
+            }
+            _ => return None,
+        }
+        Some(())
+    }
+
+    fn event_is_whole(&self) -> Taken {
+        let Some(event) = self.events.last() else { return Ok(()) };
+        let whole = if event.cause == Cause::Start { event.told.len() > 1 } else { event.hearing.is_some() };
+        whole.then_some(()).ok_or_else(|| format!("what line {} of the schedule did is missing before", event.line))
+    }
+
+    fn has_ids(&self) -> bool {
+        self.net.is_some_and(|net| net.n == self.ids.len())
+    }
+
+    fn base(&self, word: &str) -> Option<usize> {
+        word.parse().ok().filter(|b| (1..=self.ids.len()).contains(b))
+    }
+
+    fn finish(self) -> Result<Trace, String> {
+        let end = self.end.ok_or("the trace ends without a report or a refusal")?;
+        Ok(Trace { net: self.net, ids: self.ids, faulty: self.faulty, events: self.events, end })
+    }
+}
+
+/// What follows `base B`.
+fn take_outcome(event: &mut Event, net: Net, rest: &str) -> Option<()> {
+    if let Some(heard) = rest.strip_prefix("hears ") {
+        let hearing = hearing_of(heard, event.from()?, net.n)?;
+        return event.hearing.replace(hearing).is_none().then_some(());
+    }
+    let plain = rest.replace(',', "");
+    let words: Vec<&str> = plain.split(' ').collect();
+    match words[..] {
+        ["starts"] => event.starts = true,
+        ["has", "started:", "discarded"] if event.cause == Cause::Start => {}
+        ["broadcasts", number, ref message @ ..] => {
+            let number = number.strip_suffix(':')?.parse().ok()?;
+            event.broadcasts.push(Broadcast { number, message: message_of(message, net.n)? });
+        }
+        ["stops:", ref state @ ..] => match state_of(state, net.n)? {
+            State::Stopped(stop) => event.stop = Some(stop),
+            _ => return None,
+        },
+        [_, "check:", ..] => event.check = Some(check_of(&words, net)?),
+        _ => return None,
+    }
+    Some(())
+}
+
+/// `Announce 500 from base 1 on link 1: accepted`
+fn hearing_of(heard: &str, from: usize, n: usize) -> Option<Hearing> {
+    let (message, rest) = heard.split_once(" from base ")?;
+    let (sender, rest) = rest.split_once(" on link ")?;
+    let (link, outcome) = rest.split_once(": ")?;
+    let words: Vec<&str> = message.split(' ').collect();
+    let message = message_of(&words, n)?;
+    let burst = matches!(message, Message::Bytes(_));
+    let outcome = match outcome.split_once(", ").unwrap_or((outcome, "")) {
+        ("accepted", "") if !burst => Outcome::Accepted,
+        ("discarded", why) if !burst => Outcome::Discarded(why.to_string()),
+        (refused, why) if burst => {
+            let number: usize = refused.strip_prefix("refused by ")?.parse().ok()?;
+            Outcome::Refused(format!("{number}, {why}"))
+        }
+        _ => return None,
+    };
+    let placed = sender.parse() == Ok(from) && link.parse::<usize>().is_ok();
+    placed.then_some(Hearing { message, outcome })
+}
+
+fn message_of(words: &[&str], n: usize) -> Option<Message> {
+    match *words {
+        ["Announce", id] => Some(Message::Announce(id.parse().ok()?)),
+        ["Verify", id] => Some(Message::Verify(id.parse().ok()?)),
+        ["Correct-Final", ref list @ ..] => Some(Message::CorrectFinal(list_of(list, n)?)),
+        ["Verify-Final", ref list @ ..] => Some(Message::VerifyFinal(list_of(list, n)?)),
+        [length, "bytes" | "byte"] => Some(Message::Bytes(length.parse().ok()?)),
+        _ => None,
+    }
+}
+
+fn list_of(words: &[&str], n: usize) -> Option<Vec<u32>> {
+    let list: Vec<u32> = words.iter().map(|word| word.parse().ok()).collect::<Option<_>>()?;
+    (list.len() == n).then_some(list)
+}
+
+/// `idle`, `running`, `prime LIST leader ID` or `secondary LIST leader ID`
+fn state_of(words: &[&str], n: usize) -> Option<State> {
+    match *words {
+        ["idle"] => Some(State::Idle),
+        ["running"] => Some(State::Running),
+        [kind @ ("prime" | "secondary"), ref list @ .., "leader", leader] => {
+            Some(State::Stopped(Stop { prime: kind == "prime", list: list_of(list, n)?, leader: leader.parse().ok()? }))
+        }
+        _ => None,
+    }
+}
+
+/// The thresholds have to be the net's: the picture shows them once, over the figures.
+fn check_of(words: &[&str], net: Net) -> Option<Check> {
+    let figure = |word: &str| word.parse::<usize>().ok();
+    match *words {
+        ["prime", "check:", "certified", certified, "of", n, "sum", sum, "of", least, "suspects", suspects, "of", most, "runs", "on"]
+        | ["prime", "check:", "certified", certified, "of", n, "sum", sum, "of", least, "suspects", suspects, "of", most, "prime"] => {
+            let thresholds = (figure(n)?, figure(least)?, figure(most)?) == (net.n, net.least_sum(), net.t);
+            thresholds.then_some(Check::Prime { certified: figure(certified)?, sum: figure(sum)?, suspects: figure(suspects)? })
+        }
+        ["secondary", "check:", "tally", tally, "of", least, "Correct-Finals", correct_finals, "of", two, "runs", "on"]
+        | ["secondary", "check:", "tally", tally, "of", least, "Correct-Finals", correct_finals, "of", two, "secondary"] => {
+            let thresholds = (figure(least)?, figure(two)?) == (net.least_tally(), LEAST_CORRECT_FINALS);
+            thresholds.then_some(Check::Secondary { tally: figure(tally)?, correct_finals: figure(correct_finals)? })
+        }
+        _ => None,
+    }
+}

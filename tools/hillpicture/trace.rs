@@ -1,0 +1,160 @@
+//! What a trace says: the net, its events in order, and how the schedule ended. Bases are numbered from 1.
+
+pub struct Trace {
+    /// The schedule's `net` line; nothing where that line was refused.
+    pub net: Option<Net>,
+    /// Of base 1 first; fewer than n where an `id` line was refused.
+    pub ids: Vec<u32>,
+    /// The lower base first.
+    pub faulty: Vec<(usize, usize)>,
+    pub events: Vec<Event>,
+    pub end: End,
+}
+
+#[derive(Clone, Copy)]
+pub struct Net {
+    pub n: usize,
+    pub t: usize,
+}
+
+pub enum End {
+    Report { bases: Vec<State>, waiting: usize },
+    Refused { number: usize, line: usize },
+}
+
+#[derive(Clone, PartialEq, Eq)]
+pub enum State {
+    Idle,
+    Running,
+    Stopped(Stop),
+}
+
+#[derive(Clone, PartialEq, Eq)]
+pub struct Stop {
+    pub prime: bool,
+    pub list: Vec<u32>,
+    pub leader: u32,
+}
+
+/// One line of the schedule that is a start, a carry or a forgery.
+pub struct Event {
+    pub line: usize,
+    pub cause: Cause,
+    /// The base whose record the event is about.
+    pub at: usize,
+    pub starts: bool,
+    pub hearing: Option<Hearing>,
+    pub broadcasts: Vec<Broadcast>,
+    pub check: Option<Check>,
+    pub stop: Option<Stop>,
+    /// The trace's own lines.
+    pub told: Vec<String>,
+}
+
+#[derive(Clone, Copy, PartialEq, Eq)]
+pub enum Cause {
+    Start,
+    Carry { from: usize, number: usize },
+    Forge { from: usize },
+}
+
+pub struct Hearing {
+    pub message: Message,
+    pub outcome: Outcome,
+}
+
+pub enum Message {
+    Announce(u32),
+    Verify(u32),
+    CorrectFinal(Vec<u32>),
+    VerifyFinal(Vec<u32>),
+    /// A refused burst has only a length.
+    Bytes(usize),
+}
+
+pub enum Outcome {
+    Accepted,
+    Discarded(String),
+    Refused(String),
+}
+
+pub struct Broadcast {
+    pub number: usize,
+    pub message: Message,
+}
+
+/// The figures of a check. Document 01 fixes their thresholds by n and t.
+pub enum Check {
+    Prime { certified: usize, sum: usize, suspects: usize },
+    Secondary { tally: usize, correct_finals: usize },
+}
+
+impl Net {
+    /// "their tallies sum to at least n² − 2t"
+    pub fn least_sum(self) -> usize {
+        (self.n * self.n).saturating_sub(2 * self.t)
+    }
+
+    /// "The tally of V is at least t + 1"
+    pub fn least_tally(self) -> usize {
+        self.t + 1
+    }
+}
+
+/// "two links hold Correct-Final V"
+pub const LEAST_CORRECT_FINALS: usize = 2;
+
+/// A start's Announce and Verify.
+const BROADCASTS_OF_A_START: usize = 2;
+
+impl Event {
+    pub fn from(&self) -> Option<usize> {
+        match self.cause {
+            Cause::Start => None,
+            Cause::Carry { from, .. } | Cause::Forge { from } => Some(from),
+        }
+    }
+
+    /// What is broadcast because the base starts, because of what it hears, and because it stops.
+    pub fn broadcasts_by_cause(&self) -> [&[Broadcast]; 3] {
+        let first = if self.starts { BROADCASTS_OF_A_START.min(self.broadcasts.len()) } else { 0 };
+        let (start, rest) = self.broadcasts.split_at(first);
+        let last = rest.len() - usize::from(self.stop.is_some()).min(rest.len());
+        let (arrival, stop) = rest.split_at(last);
+        [start, arrival, stop]
+    }
+}
+
+impl Trace {
+    pub fn n(&self) -> usize {
+        self.net.map_or(0, |net| net.n)
+    }
+
+    pub fn is_faulty(&self, a: usize, b: usize) -> bool {
+        self.faulty.contains(&(a.min(b), a.max(b)))
+    }
+
+    /// The true identifiers, sorted; nothing where not all are known.
+    pub fn true_list(&self) -> Option<Vec<u32>> {
+        let mut list = self.ids.clone();
+        list.sort_unstable();
+        (self.net.is_some() && list.len() == self.n()).then_some(list)
+    }
+
+    /// Each base's state after the last event: the report's, or as the events of a refused schedule left it.
+    pub fn last_states(&self) -> Vec<State> {
+        if let End::Report { bases, .. } = &self.end {
+            return bases.clone();
+        }
+        let mut states = vec![State::Idle; self.n()];
+        for event in &self.events {
+            if event.starts {
+                states[event.at - 1] = State::Running;
+            }
+            if let Some(stop) = &event.stop {
+                states[event.at - 1] = State::Stopped(stop.clone());
+            }
+        }
+        states
+    }
+}
