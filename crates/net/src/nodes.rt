@@ -59,15 +59,15 @@ pub fn node_at(net: Net, b: u8) -> Node
 pub fn with_node(net: Net, b: u8, node: Node) -> Net
     ensures { λ r. ⌜ r ≡ withNode net b node ⌝ }
 {
-    let place = b as usize;
-    if place < 1 {
+    let at = b as usize;
+    if at < 1 {
         return net;
     }
-    if MOST_BASES < place {
+    if MOST_BASES < at {
         return net;
     }
     let mut after = net;
-    after.nodes[place - 1] = node;
+    after.nodes[at - 1] = node;
     after
 }
 
