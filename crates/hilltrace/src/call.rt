@@ -1,0 +1,128 @@
+// What a start or an arrival did.
+use crate::figures;
+use crate::frames::broadcasts;
+use crate::reason;
+use crate::say;
+use engine::arrival::arrive;
+use engine::start::start;
+use leader::leader_of;
+use limits::OUTPUT_ROOM;
+use node::Node;
+use numbers::Answer;
+use numbers::outcome_numbers;
+use numbers::read_numbers;
+use protocol::Base;
+
+// The list and the leader of a base that stops.
+fn stop(b: u8, base: Base) {
+    let list = base.final_list;
+    if base.state == 2 {
+        say::base(b, b" stops: prime");
+    } else {
+        say::base(b, b" stops: secondary");
+    }
+    say::identifiers(list, base.n as usize);
+    say::text(b" leader ");
+    say::number(leader_of(&list) as usize);
+    say::text(b"\n");
+}
+
+// The check that follows an accepted message, and the stop that may follow the check.
+fn checked(b: u8, after: Base, made: usize, answer: Answer, burst: &[u8], frames: &[u8]) {
+    let taken = read_numbers(after.n as usize, burst);
+    let list = taken.ids;
+    if taken.kind < 3 {
+        figures::prime(b, after);
+    } else {
+        figures::secondary(b, after, list);
+    }
+    if after.state < 2 {
+        return;
+    }
+    broadcasts(b, after, made, answer, true, frames);
+    stop(b, after);
+}
+
+fn on_link(from: u8, link: usize, words: &[u8]) {
+    say::text(b" from base ");
+    say::number(from as usize);
+    say::text(b" on link ");
+    say::number(link);
+    say::text(words);
+}
+
+fn hears(b: u8, n: u8, burst: &[u8]) {
+    say::base(b, b" hears ");
+    say::message(n, burst);
+}
+
+fn refused(b: u8, from: u8, link: usize, length: usize, number: u8) {
+    say::base(b, b" hears ");
+    say::number(length);
+    say::text(b" bytes");
+    on_link(from, link, b": refused by ");
+    say::number(number as usize);
+    say::text(b", ");
+    reason::refused(number);
+}
+
+// The message, and why it is thrown away.
+fn discards(b: u8, base: Base, from: u8, link: usize, burst: &[u8]) {
+    let taken = read_numbers(base.n as usize, burst);
+    let ids = taken.ids;
+    hears(b, base.n, burst);
+    on_link(from, link, b": discarded, ");
+    reason::discarded(base, link, taken.kind, ids[0]);
+}
+
+// A start at base b.
+pub(crate) fn start_call(b: u8, node: Node) {
+    let base = node.base;
+    if base.state != 0 {
+        return say::base(b, b" has started: discarded\n");
+    }
+    let mut frames = [0u8; OUTPUT_ROOM];
+    let step = start(base, &mut frames);
+    let outcome = step.outcome;
+    let after = step.base;
+    say::base(b, b" starts\n");
+    broadcasts(
+        b,
+        after,
+        node.count,
+        outcome_numbers(outcome),
+        false,
+        &frames,
+    );
+}
+
+// The message that was not refused.
+fn heard(b: u8, base: Base, from: u8, link: usize, accepted: bool, burst: &[u8]) {
+    if base.state == 0 {
+        say::base(b, b" starts\n");
+    }
+    if accepted {
+        hears(b, base.n, burst);
+        on_link(from, link, b": accepted\n");
+    } else {
+        discards(b, base, from, link, burst);
+    }
+}
+
+// A burst arrives at base b, on its link to a base.
+pub(crate) fn arrival_call(b: u8, node: Node, from: u8, link: usize, burst: &[u8]) {
+    let base = node.base;
+    let mut frames = [0u8; OUTPUT_ROOM];
+    let step = arrive(base, link, burst, &mut frames);
+    let outcome = step.outcome;
+    let after = step.base;
+    let answer = outcome_numbers(outcome);
+    if answer.outcome == 0 {
+        return refused(b, from, link, burst.len(), answer.refusal);
+    }
+    heard(b, base, from, link, answer.outcome == 1, burst);
+    broadcasts(b, after, node.count, answer, false, &frames);
+    if answer.outcome == 1 {
+        checked(b, after, node.count, answer, burst, &frames);
+    }
+}

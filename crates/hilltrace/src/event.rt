@@ -1,0 +1,97 @@
+// The lines of events.
+use crate::call;
+use crate::parts::part;
+use crate::walk::Walk;
+use crate::walk::halt;
+use crate::walk::onward;
+use crate::walk::show_line;
+use lines::event::Line;
+use lines::event::event_line;
+use net::nodes::node_at;
+use node::log::broadcast;
+use numbering::link_to;
+use text::hex::hex_bytes;
+
+fn started(s: &[u8], walk: Walk, b: u8, next: usize) -> Walk {
+    let net = walk.net;
+    let moved = events::start(net, b);
+    if moved.refusal != 0 {
+        return halt(walk);
+    }
+    show_line(s, walk, next);
+    call::start_call(b, node_at(net, b));
+    let after = moved.net;
+    onward(walk, after, next)
+}
+
+fn carried(s: &[u8], walk: Walk, a: u8, b: u8, k: usize, next: usize) -> Walk {
+    let net = walk.net;
+    let moved = events::carry(net, a, b, k);
+    if moved.refusal != 0 {
+        return halt(walk);
+    }
+    show_line(s, walk, next);
+    let frame = broadcast(node_at(net, a), k);
+    let bytes = frame.bytes;
+    call::arrival_call(
+        b,
+        node_at(net, b),
+        a,
+        link_to(b, a),
+        part(&bytes, 0, frame.len),
+    );
+    let after = moved.net;
+    onward(walk, after, next)
+}
+
+// A forgery whose bytes stand in the schedule.
+fn forged(s: &[u8], walk: Walk, a: u8, b: u8, at: usize, count: usize, next: usize) -> Walk {
+    let net = walk.net;
+    let bytes = hex_bytes(s, at, count);
+    let moved = events::forge(net, a, b, part(&bytes, 0, count));
+    if moved.refusal != 0 {
+        return halt(walk);
+    }
+    show_line(s, walk, next);
+    call::arrival_call(b, node_at(net, b), a, link_to(b, a), part(&bytes, 0, count));
+    let after = moved.net;
+    onward(walk, after, next)
+}
+
+fn step(s: &[u8], walk: Walk) -> Walk {
+    let net = walk.net;
+    let here = walk.at;
+    match event_line(net.n, s, here) {
+        Line::Start { base, next } => started(s, walk, base, next),
+        Line::Carry {
+            from,
+            to,
+            number,
+            next,
+        } => carried(s, walk, from, to, number as usize, next),
+        Line::Forge {
+            from,
+            to,
+            at,
+            count,
+            next,
+        } => forged(s, walk, from, to, at, count, next),
+        Line::Wrong => halt(walk),
+    }
+}
+
+// Every event, up to the schedule's end or the first line that is refused.
+pub(crate) fn steps(s: &[u8], first: Walk) {
+    let mut walk = first;
+    let mut k: usize = 0;
+    while k < s.len() {
+        k += 1;
+        if walk.halted {
+            return;
+        }
+        if s.len() <= walk.at {
+            return;
+        }
+        walk = step(s, walk);
+    }
+}

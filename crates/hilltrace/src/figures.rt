@@ -1,0 +1,52 @@
+// The figures of the checks, beside what they are held against.
+use crate::say;
+use certified::certified_count;
+use limits::MOST_BASES;
+use protocol::Base;
+use tally::suspects::suspect_count;
+use tally::vectors::correct_count;
+use tally::vectors::list_tally;
+use tally::verifies::tally_sum;
+
+// n² - 2t
+fn sum_asked(n: u8, t: u8) -> usize {
+    let bases = n as usize;
+    if MOST_BASES < bases {
+        return 0;
+    }
+    let square = bases * bases;
+    let less = 2 * (t as usize);
+    if square < less {
+        return 0;
+    }
+    square - less
+}
+
+// What the check made of the base.
+fn verdict(state: u8) {
+    match state {
+        2 => say::text(b", prime\n"),
+        3 => say::text(b", secondary\n"),
+        _ => say::text(b", runs on\n"),
+    }
+}
+
+pub(crate) fn prime(b: u8, base: Base) {
+    say::base(b, b", prime check: certified ");
+    say::of(certified_count(base), base.n as usize, b", sum ");
+    say::of(tally_sum(base), sum_asked(base.n, base.t), b", suspects ");
+    say::of(suspect_count(base), base.t as usize, b"");
+    verdict(base.state);
+}
+
+// On the first n identifiers of v.
+pub(crate) fn secondary(b: u8, base: Base, v: [u32; MOST_BASES]) {
+    say::base(b, b", secondary check: tally ");
+    say::of(
+        list_tally(base, v),
+        base.t as usize + 1,
+        b", Correct-Finals ",
+    );
+    say::of(correct_count(base, v), 2, b"");
+    verdict(base.state);
+}

@@ -1,0 +1,60 @@
+// Pieces of the trace, written to standard output as they come.
+use limits::MOST_BASES;
+use numbers::read_numbers;
+
+pub(crate) fn text(words: &[u8]) {
+    io::write_all(1, words);
+}
+
+pub(crate) fn number(v: usize) {
+    io::print_decimal(1, v as u64);
+}
+
+fn identifier(g: u32) {
+    text(b" ");
+    number(g as usize);
+}
+
+// `  base B` and words.
+pub(crate) fn base(b: u8, words: &[u8]) {
+    text(b"  base ");
+    number(b as usize);
+    text(words);
+}
+
+// A number, what it is held against, and words.
+pub(crate) fn of(v: usize, asked: usize, words: &[u8]) {
+    number(v);
+    text(b" of ");
+    number(asked);
+    text(words);
+}
+
+// The first count identifiers, each behind a blank.
+pub(crate) fn identifiers(ids: [u32; MOST_BASES], count: usize) {
+    let mut i: usize = 0;
+    while i < MOST_BASES {
+        if count <= i {
+            return;
+        }
+        identifier(ids[i]);
+        i += 1;
+    }
+}
+
+fn kind_word(kind: u8) {
+    match kind {
+        1 => text(b"Announce"),
+        2 => text(b"Verify"),
+        3 => text(b"Correct-Final"),
+        _ => text(b"Verify-Final"),
+    }
+}
+
+// The message of a burst that is fit.
+pub(crate) fn message(n: u8, burst: &[u8]) {
+    let taken = read_numbers(n as usize, burst);
+    let ids = taken.ids;
+    kind_word(taken.kind);
+    identifiers(ids, taken.count);
+}
