@@ -4,7 +4,7 @@ use Prim.Native.Nat.{_≤_}
 use mathlib.Core.Path.{sym, subst}
 use lib.ListN.{length}
 use lib.Seq.{length-take-le}
-use Rattle.hillreplay.specs.Input.{Within}
+use Rattle.input.specs.Within.{Within}
 use borrow.Author.Needs.{needs}
 use Rattle.hillreplay.proofs.main.Statement.{statement}
 use Rattle.hillreplay.proofs.main.Tie as tie

@@ -1,12 +1,12 @@
--- `hillreplay::read_input` meets its contract. Invariant: what is read fits the buffer, which keeps its length.
+-- `input::read_input` meets its contract. Invariant: what is read fits the buffer, which keeps its length.
 use native.Mathlib.Omega.{arith}
 use borrow.Author.Needs.{needs}
 use Prim.Native.Nat.{_≤_, _-_}
 use mathlib.Core.Path.{_≡_, refl, _∙_, subst}
 use lib.ListN.{length}
-use Rattle.hillreplay.specs.Input.{Within}
-use Rattle.hillreplay.proofs.read_input.Statement.{statement}
-use Rattle.hillreplay.proofs.read_input.Tie as tie
+use Rattle.input.specs.Within.{Within}
+use Rattle.input.proofs.read_input.Statement.{statement}
+use Rattle.input.proofs.read_input.Tie as tie
 
 abbrev Inv-loop : tie.InvT-loop
 Inv-loop buffer₀ done₀ turns₀ buffer done turns = (turns ≤ length buffer) × ((done ≤ length buffer) × (length buffer ≡ length buffer₀))

@@ -1,7 +1,7 @@
--- `hillreplay::read_more` meets its contract: no more is counted than the rest of the buffer has room for.
+-- `input::read_more` meets its contract: no more is counted than the rest of the buffer has room for.
 use borrow.Author.Needs.{needs}
-use Rattle.hillreplay.proofs.read_more.Statement.{statement}
-use Rattle.hillreplay.proofs.read_more.Tie as tie
+use Rattle.input.proofs.read_more.Statement.{statement}
+use Rattle.input.proofs.read_more.Tie as tie
 
 sub-read : tie.Need-sub-read
 sub-read c = search needs
