@@ -29,6 +29,8 @@ extern "C" {
 #define ROSTER_OUTPUT_ROOM 136 /* bytes to lend to roster_start and roster_arrive */
 #define ROSTER_LONGEST_BURST 132
 #define ROSTER_LONGEST_FRAME 68
+#define ROSTER_LONGEST_SCHEDULE 65536
+#define ROSTER_REPORT_ROOM 3621 /* bytes to lend to roster_replay */
 
 enum roster_state { ROSTER_IDLE, ROSTER_RUNNING, ROSTER_PRIME, ROSTER_SECONDARY };
 enum roster_kind { ROSTER_ANNOUNCE = 1, ROSTER_VERIFY, ROSTER_CORRECT_FINAL, ROSTER_VERIFY_FINAL };
@@ -111,6 +113,10 @@ roster_taken roster_read(size_t n, const uint8_t *burst, size_t burst_length);
 /* The frame of a message in a net of n. Turned down by 1, 6 (the output is shorter than the frame), 8, 9, 11 and 12.
  * Touches the frame's bytes at the front of the output. */
 roster_put roster_write(size_t n, uint8_t kind, const uint32_t *ids, size_t id_count, uint8_t *out, size_t out_length);
+
+/* The report of a schedule, as hillreplay prints it; its length. A schedule that is refused has the report "refused N line L". An output with less
+ * than ROSTER_REPORT_ROOM bytes is left alone, and the length is 0. Touches the report's bytes at the front of the output. */
+size_t roster_replay(const uint8_t *schedule, size_t schedule_length, uint8_t *out, size_t out_length);
 
 #ifdef __cplusplus
 }

@@ -14,8 +14,8 @@ pub const SHORTEST_BURST: usize = 8;
 pub const LONGEST_BURST: usize = 132;
 pub const LONGEST_SCHEDULE: usize = 65_536;
 
-/// The longest report: nine lines of 211 bytes and seven of 212 (16 bases, all secondary, identifiers of ten digits), then `waiting 4560`.
-pub const REPORT_ROOM: usize = 9 * 211 + 7 * 212 + 13;
+/// What a replay asks to be lent (docs/DECISIONS.md): 213 bytes for the line of each of 16 bases and for the last line. No report takes as much.
+pub const REPORT_ROOM: usize = 17 * 213;
 
 /// "t is at most (n − 2) / 2 rounded down"
 pub fn most_faulty(n: usize) -> usize {
@@ -60,6 +60,6 @@ mod tests {
         assert_eq!([2, 3, 4, 5, 6, 12, 15, 16].map(most_faulty), [0, 0, 1, 1, 2, 5, 6, 7]);
         let line = |b: usize| format!("base {b} secondary{} leader 4294967295\n", " 4294967295".repeat(16)).len();
         let waiting = format!("waiting {}\n", 16 * 15 * 19).len();
-        assert_eq!((1..=16).map(line).sum::<usize>() + waiting, REPORT_ROOM);
+        assert!((1..=16).map(line).sum::<usize>() + waiting <= REPORT_ROOM);
     }
 }

@@ -61,7 +61,7 @@ pub mod c {
         pub fn roster_leader(base: *mut RawBase) -> Leader;
         pub fn roster_read(n: usize, burst: *const u8, burst_len: usize) -> Reading;
         pub fn roster_write(n: usize, kind: u8, ids: *const u32, ids_len: usize, out: *mut u8, out_len: usize) -> Written;
-        /// The report's length; 0, and nothing is written, where the output is shorter than 3,396 bytes.
+        /// The report's length; 0, and nothing is written, where the output is shorter than 3,621 bytes.
         pub fn roster_replay(schedule: *const u8, schedule_len: usize, out: *mut u8, out_len: usize) -> usize;
     }
 }
