@@ -10,6 +10,7 @@ use lib.Dec.{eqb, ltb, leb}
 use lib.ListN.{length, drop}
 use Rattle.limits.specs.Limits.{mostBases, outputRoom, longestSchedule}
 use Rattle.lists.specs.Choice.{choose}
+use Rattle.lists.specs.Choice.Laws.{choose-no}
 use Rattle.text.specs.declared.number.Number.{Number}
 use Rattle.text.specs.declared.number.Number.the-variants.{Value, Bad}
 use Rattle.text.specs.Hex.{hexBytes}
@@ -51,8 +52,8 @@ use Rattle.replay.specs.Play.{
   headerPlay,
   advanced,
   eventPlay,
-  forgePlay,
-  toldPlay,
+  happened,
+  nextOf,
   linePlay,
   nextPlay,
   wholePlay,
@@ -230,19 +231,27 @@ event-follows e next p st H proper F = judged-follows (eventRefusal (faultyOf (p
       net = stands-goes-on H e proper (p .net) (F .net);
     }
 
-line-follows : (s : List ℕ) (p : Play) (st : Story) (i : ℕ) (x : Line) → EventTold (st .n) s i x → Told st → Follows p st → Follows (toldPlay s x p) (Stories.lineStep s x st)
-unfolding toldPlay forgePlay Stories.lineStep
+-- what a line does
+abbrev played : List ℕ → Line → Play → Play
+played s x p = advanced p (happened s (p .net) x) (nextOf x)
+
+wrong-follows : (p : Play) (st : Story) → Follows p st → Follows (advanced p (record { refusal = 13; net = p .net }) 0) (Stories.refuse 13 st)
+unfolding advanced judgedPlay
+wrong-follows p st F = subst (λ (q : Play). Follows q (Stories.refuse 13 st)) (sym (choose-no (onwardPlay p (p .net) 0) (refusedPlay 13 p) refl)) (refused-follows 13 F)
+
+line-follows : (s : List ℕ) (p : Play) (st : Story) (i : ℕ) (x : Line) → EventTold (st .n) s i x → Told st → Follows p st → Follows (played s x p) (Stories.lineStep s x st)
+unfolding happened nextOf eventPlay Stories.lineStep
 line-follows s p st i (Start b next) told H F = event-follows (starts b outputRoom) next p st H (proper-start (st .n) b outputRoom (told .0)) F
 line-follows s p st i (Carry a b k next) told H F = event-follows (carry a b k outputRoom) next p st H (proper-carry (st .n) a b k outputRoom (told .0)) F
 line-follows s p st i (Forge a b at count next) told H F =
     event-follows (forge a b (hexBytes count (drop at s)) outputRoom) next p st H (proper-forge (st .n) a b count outputRoom (drop at s) (told .0)) F
-line-follows s p st i Wrong told H F = refused-follows 13 F
+line-follows s p st i Wrong told H F = wrong-follows p st F
 
 read-follows : (s : List ℕ) (p : Play) (st : Story) → Told st → Follows p st → Follows (linePlay s p) (Stories.lineStep s (eventLine (st .n) s (st .at)) st)
 unfolding linePlay
 read-follows s p st H F =
-    subst (λ (i : ℕ). Follows (toldPlay s (eventLine (p .net .n) s (p .at)) p) (Stories.lineStep s (eventLine (st .n) s i) st)) (F .at)
-    (subst (λ (n : ℕ). Follows (toldPlay s (eventLine n s (p .at)) p) (Stories.lineStep s (eventLine (st .n) s (p .at)) st)) (sym (F .net .record-n))
+    subst (λ (i : ℕ). Follows (played s (eventLine (p .net .n) s (p .at)) p) (Stories.lineStep s (eventLine (st .n) s i) st)) (F .at)
+    (subst (λ (n : ℕ). Follows (played s (eventLine n s (p .at)) p) (Stories.lineStep s (eventLine (st .n) s (p .at)) st)) (sym (F .net .record-n))
     (line-follows s p st (p .at) (eventLine (st .n) s (p .at)) (event-told (st .n) s (p .at)) H F))
 
 next-follows : (s : List ℕ) (p : Play) (st : Story) → Unrefused Told st → Follows p st → Follows (nextPlay s p) (Stories.nextLine s st)

@@ -1,10 +1,10 @@
 -- What the program keeps while it reads a schedule, line by line: the steps of `schedule/specs/Story`, with the program's net for the net that it stands for.
-use Prim.Native.Nat.{ℕ, zero, suc, _+_, _-_, _^_}
+use Prim.Native.Nat.{ℕ, zero, suc, _+_, _*_, _-_, _^_, _≤_}
 use mathlib.Core.Bool.{not}
 use mathlib.Core.List.{List, _++_}
 use lib.Dec.{eqb, ltb, leb}
 use lib.ListN.{length, drop}
-use Rattle.limits.specs.Limits.{outputRoom, longestSchedule}
+use Rattle.limits.specs.Limits.{outputRoom, longestBurst, longestSchedule}
 use Rattle.lists.specs.Choice.{choose}
 use Rattle.text.specs.Hex.{hexBytes}
 use Rattle.lines.specs.declared.event.Line.{Line}
@@ -79,17 +79,28 @@ advanced p m next = judgedPlay (m .refusal) p (onwardPlay p (m .net) next)
 unfoldable pub eventPlay : Event → ℕ → Play → Play
 eventPlay e next p = advanced p (moved (p .net) e) next
 
-unfoldable pub forgePlay : List ℕ → Play → ℕ → ℕ → ℕ → ℕ → ℕ → Play
-forgePlay s p a b at count next = eventPlay (forge a b (hexBytes count (drop at s)) outputRoom) next p
+-- the net, and the number by which a line is turned down
+unfoldable pub happened : List ℕ → Net → Line → Moved
+happened s net (Start b next) = moved net (starts b outputRoom)
+happened s net (Carry a b k next) = moved net (carry a b k outputRoom)
+happened s net (Forge a b at count next) = moved net (forge a b (hexBytes count (drop at s)) outputRoom)
+happened s net Wrong = record { refusal = 13; net = net }
 
-unfoldable pub toldPlay : List ℕ → Line → Play → Play
-toldPlay s (Start b next) p = eventPlay (starts b outputRoom) next p
-toldPlay s (Carry a b k next) p = eventPlay (carry a b k outputRoom) next p
-toldPlay s (Forge a b at count next) p = forgePlay s p a b at count next
-toldPlay s Wrong p = refusedPlay 13 p
+unfoldable pub nextOf : Line → ℕ
+nextOf (Start b next) = next
+nextOf (Carry a b k next) = next
+nextOf (Forge a b at count next) = next
+nextOf Wrong = 0
+
+-- the bytes of a forgery stand in the text
+abbrev pub HasBytes : List ℕ → Line → Type 0
+HasBytes s (Start b next) = Unit {0}
+HasBytes s (Carry a b k next) = Unit {0}
+HasBytes s (Forge a b at count next) = (count ≤ longestBurst) × (2 * count ≤ length (drop at s))
+HasBytes s Wrong = Unit {0}
 
 unfoldable pub linePlay : List ℕ → Play → Play
-linePlay s p = toldPlay s (eventLine (p .net .n) s (p .at)) p
+linePlay s p = let x = eventLine (p .net .n) s (p .at) in advanced p (happened s (p .net) x) (nextOf x)
 
 unfoldable pub nextPlay : List ℕ → Play → Play
 nextPlay s p = unlessRefusedPlay p (choose (leb (length s) (p .at)) p (linePlay s p))

@@ -1,75 +1,123 @@
 // The lines of events.
 use crate::play::Play;
-use crate::play::advance;
-use crate::play::refuse;
+use events::Moved;
 use lines::event::Line;
 use lines::event::event_line;
+use net::Net;
 use text::hex::hex_bytes;
 ghost use mathlib.Core.Path.{_≡_};
 ghost use Prim.Native.Nat.{_≤_, _*_};
 ghost use lib.ListN.{length, drop};
-ghost use Rattle.limits.specs.Limits.{longestBurst};
+ghost use Rattle.limits.specs.Limits.{longestBurst, outputRoom};
+ghost use Rattle.text.specs.Hex.{hexBytes};
+ghost use Rattle.protocol.specs.Net as Nets;
+ghost use Rattle.events.specs.Events.{moved};
 ghost use Rattle.replay.specs.Play.{
-  mostLines,
-  forgePlay,
-  linePlay,
+  HasBytes,
+  happened,
+  nextOf,
   nextPlay,
   repeatPlay,
 };
 
 // A forgery whose bytes stand in the schedule.
-fn forge_step(s: &[u8], play: Play, a: u8, b: u8, at: usize, count: usize, next: usize) -> Play
-    requires { ⌜ play .line ≤ mostLines ⌝ }
+fn forge_bytes(s: &[u8], net: Net, a: u8, b: u8, at: usize, count: usize) -> Moved
     requires { ⌜ (count ≤ longestBurst) × (2 * count ≤ length (drop at (now s))) ⌝ }
-    ensures { λ r. ⌜ r ≡ forgePlay (now (s .entry)) play a b at count next ⌝ }
+    ensures { λ r. ⌜ r ≡ moved net (Nets.forge a b (hexBytes count (drop at (now (s .entry)))) outputRoom) ⌝ }
 {
-    let net = play.net;
     let bytes = hex_bytes(s, at, count);
-    advance(play, events::forge(net, a, b, &bytes[..count]), next)
+    events::forge(net, a, b, &bytes[..count])
 }
 
-// One line.
-fn line_step(s: &[u8], play: Play) -> Play
-    requires { ⌜ play .line ≤ mostLines ⌝ }
-    ensures { λ r. ⌜ r ≡ linePlay (now (s .entry)) play ⌝ }
+// What a line does to the net, beside the number by which the line is turned down.
+fn happen(s: &[u8], net: Net, line: Line) -> Moved
+    requires { ⌜ HasBytes (now s) line ⌝ }
+    ensures { λ r. ⌜ r ≡ happened (now (s .entry)) net line ⌝ }
 {
-    let net = play.net;
-    let start = play.at;
-    match event_line(net.n, s, start) {
-        Line::Start { base, next } => advance(play, events::start(net, base), next),
+    match line {
+        Line::Start { base, next: _ } => events::start(net, base),
         Line::Carry {
             from,
             to,
             number,
-            next,
-        } => advance(play, events::carry(net, from, to, number as usize), next),
+            next: _,
+        } => events::carry(net, from, to, number as usize),
         Line::Forge {
             from,
             to,
             at,
             count,
-            next,
-        } => forge_step(s, play, from, to, at, count, next),
-        Line::Wrong => refuse(play, 13),
+            next: _,
+        } => forge_bytes(s, net, from, to, at, count),
+        Line::Wrong => Moved { refusal: 13, net },
     }
 }
 
-// Every line, up to the text's end or the first that is turned down.
+// Where the line behind begins.
+fn next_of(line: Line) -> usize
+    ensures { λ r. ⌜ r ≡ nextOf line ⌝ }
+{
+    match line {
+        Line::Start { base: _, next } => next,
+        Line::Carry {
+            from: _,
+            to: _,
+            number: _,
+            next,
+        } => next,
+        Line::Forge {
+            from: _,
+            to: _,
+            at: _,
+            count: _,
+            next,
+        } => next,
+        Line::Wrong => 0,
+    }
+}
+
+// Every line, up to the text's end or the first that is turned down. The net is kept apart from the rest, so that a line copies it seldom.
 pub(crate) fn play_history(s: &[u8], first: Play) -> Play
     requires { ⌜ first .line ≤ 600 ⌝ }
     ensures { λ r. ⌜ r ≡ repeatPlay (length (now (s .entry))) (nextPlay (now (s .entry))) first ⌝ }
 {
-    let mut play = first;
+    if first.refusal != 0 {
+        return first;
+    }
+    let mut net = first.net;
+    let mut at = first.at;
+    let mut number = first.line;
     let mut k: usize = 0;
     while k < s.len() {
-        if play.refusal != 0 {
-            return play;
+        if s.len() <= at {
+            return Play {
+                net,
+                at,
+                line: number,
+                refusal: 0,
+            };
         }
-        if s.len() <= play.at {
-            return play;
+        let line = event_line(net.n, s, at);
+        let moved = happen(s, net, line);
+        let refusal = moved.refusal;
+        if refusal != 0 {
+            return Play {
+                net,
+                at,
+                line: number,
+                refusal,
+            };
         }
-        play = line_step(s, play);
+        let after = moved.net;
+        net = after;
+        at = next_of(line);
+        number += 1;
         k += 1;
     }
-    play
+    Play {
+        net,
+        at,
+        line: number,
+        refusal: 0,
+    }
 }

@@ -14,6 +14,8 @@ use limits::LONGEST_SCHEDULE;
 use limits::MOST_BASES;
 use report::line::LINE_ROOM;
 ghost use mathlib.Core.Path.{_≡_};
+ghost use Prim.Native.Nat.{_≤_};
+ghost use lib.ListN.{length};
 ghost use Rattle.schedule.specs.Report.{replayLength, replayOutput};
 ghost use Rattle.replay.specs.Play.{wholePlay};
 
@@ -35,6 +37,7 @@ fn play_whole(schedule: &[u8]) -> Play
 pub fn replay(schedule: &[u8], out: &mut [u8]) -> usize
     ensures { λ r. ⌜ r ≡ replayLength (now (schedule .entry)) (now (out .entry)) ⌝ }
     ensures { λ r. ⌜ now (out .exit) ≡ replayOutput (now (schedule .entry)) (now (out .entry)) ⌝ }
+    ensures { λ r. ⌜ r ≤ length (now (out .entry)) ⌝ }
 {
     if out.len() < REPORT_ROOM {
         return 0;

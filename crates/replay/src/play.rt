@@ -1,10 +1,9 @@
 // How far a schedule is read.
-use events::Moved;
 use net::Net;
 use net::made::made;
 ghost use mathlib.Core.Path.{_≡_};
 ghost use Prim.Native.Nat.{_≤_};
-ghost use Rattle.replay.specs.Play.{mostLines, unreadPlay, refusedPlay, onwardPlay, advanced};
+ghost use Rattle.replay.specs.Play.{mostLines, unreadPlay, refusedPlay, onwardPlay};
 
 pub(crate) struct Play {
     pub net: Net,
@@ -47,17 +46,4 @@ pub(crate) fn onward(play: Play, net: Net, next: usize) -> Play
         line: play.line + 1,
         refusal: play.refusal,
     }
-}
-
-// The next line is an event.
-pub(crate) fn advance(play: Play, moved: Moved, next: usize) -> Play
-    requires { ⌜ play .line ≤ mostLines ⌝ }
-    ensures { λ r. ⌜ r ≡ advanced play moved next ⌝ }
-{
-    let refusal = moved.refusal;
-    if refusal != 0 {
-        return refuse(play, refusal);
-    }
-    let net = moved.net;
-    onward(play, net, next)
 }

@@ -18,7 +18,7 @@ use Rattle.replay.proofs.replay.Tie as tie
 
 returns : tie.Need-returns
 unfolding replayLength replayOutput
-returns c = let e = lt-ltb _ _ (c .if1 .taken) in (chosen-yes _ e refl, chosen-yes _ e refl)
+returns c = let e = lt-ltb _ _ (c .if1 .taken) in (chosen-yes _ e refl, (chosen-yes _ e refl, omega arith))
 
 play-whole-requires : tie.Need-play-whole-requires
 play-whole-requires c κs = search needs
@@ -35,8 +35,9 @@ unfolding replayLength replayOutput over
 returns-2 c = let s = now (c .before .before .before .before .before .before .before .before .args .schedule) in
     let P = put-as (ap reportPlay (c .before .before .before .before .play-whole .ensures) ∙ report-is s) (c .before .before .put-report .ensures .0) in
     let e = le-ltb _ _ (c .before .before .before .before .before .if1 .left) in
-    let f = put-front (omega (arith, P .past, c .before .before .put-report .ensures .1, c .before .before .before .before .before .if1 .left)) P in
-    (chosen-no _ e (f .0), chosen-no _ e (f .1))
+    let most = c .before .before .put-report .ensures .1 in
+    let f = put-front (omega (arith, P .past, most, c .before .before .before .before .before .if1 .left)) P in
+    (chosen-no _ e (f .0), (chosen-no _ e (f .1), omega (arith, most, c .before .before .before .before .before .if1 .left)))
 
 pub replay-spec : {M : Type 1} → statement M
 replay-spec =

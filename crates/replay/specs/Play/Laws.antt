@@ -15,12 +15,13 @@ use Rattle.lines.specs.declared.bases.Two.{Two}
 use Rattle.lines.specs.declared.bases.Two.the-variants.{Both, Neither}
 use Rattle.lines.specs.declared.event.Line.{Line}
 use Rattle.lines.specs.declared.event.Line.the-variants.{Start, Carry, Forge, Wrong}
+use Rattle.lines.specs.Lines.Told.{EventTold, event-told}
 use Rattle.lines.specs.Lines.{afterNumber, afterTwo, netLine, idLine, faultyLine, eventLine}
-use Rattle.protocol.specs.Net.{good, Event}
+use Rattle.protocol.specs.Net.{good}
 use Rattle.net.specs.declared.Net.{Net}
 use Rattle.net.specs.Shown.{shown, faultyOf}
 use Rattle.net.specs.Header.{madeNet, namedNet, idRefusal, withFaulty, faultyRefusal}
-use Rattle.events.specs.Events.{moved}
+use Rattle.events.specs.declared.Moved.{Moved}
 use Rattle.schedule.specs.Header.{sizeRefusal}
 use Rattle.replay.specs.declared.play.Play.{Play}
 use Rattle.replay.specs.Play.{
@@ -36,9 +37,9 @@ use Rattle.replay.specs.Play.{
   markedPlay,
   faultyPlay,
   advanced,
-  eventPlay,
-  forgePlay,
-  toldPlay,
+  HasBytes,
+  happened,
+  nextOf,
   linePlay,
   nextPlay,
 }
@@ -102,9 +103,29 @@ pub next-ended : (s : List ℕ) (p : Play) → p .refusal ≡ 0 → length s ≤
 unfolding nextPlay unlessRefusedPlay
 next-ended s p z h = choose-yes _ _ (eq-eqb (p .refusal) 0 z) ∙ choose-yes _ _ (le-leb (length s) (p .at) h)
 
-pub next-line : (s : List ℕ) (p : Play) {q : Play} → p .refusal ≡ 0 → p .at < length s → q ≡ linePlay s p → q ≡ nextPlay s p
+-- a line: turned down, or gone on from
+line-next : (s : List ℕ) (p : Play) → p .refusal ≡ 0 → p .at < length s → nextPlay s p ≡ linePlay s p
 unfolding nextPlay unlessRefusedPlay
-next-line s p z h e = e ∙ sym (choose-yes _ _ (eq-eqb (p .refusal) 0 z) ∙ choose-no _ _ (lt-leb (length s) (p .at) h))
+line-next s p z h = choose-yes _ _ (eq-eqb (p .refusal) 0 z) ∙ choose-no _ _ (lt-leb (length s) (p .at) h)
+
+pub line-refused : (s : List ℕ) (p : Play) (x : Line) (m : Moved) → p .refusal ≡ 0 → p .at < length s → x ≡ eventLine (p .net .n) s (p .at) → m ≡ happened s (p .net) x
+    → (m .refusal ≡ 0 → ⊥) → refusedPlay (m .refusal) p ≡ nextPlay s p
+unfolding linePlay advanced
+line-refused s p x m z h ex em n =
+    judged-refused p (onwardPlay p (m .net) (nextOf x)) refl n refl ∙ ap (λ (y : Moved). advanced p y (nextOf x)) em
+    ∙ ap (λ (y : Line). advanced p (happened s (p .net) y) (nextOf y)) ex ∙ sym (line-next s p z h)
+
+pub line-onward : (s : List ℕ) (p : Play) (x : Line) (m : Moved) → p .refusal ≡ 0 → p .at < length s → x ≡ eventLine (p .net .n) s (p .at) → m ≡ happened s (p .net) x
+    → m .refusal ≡ 0 → onwardPlay p (m .net) (nextOf x) ≡ nextPlay s p
+unfolding linePlay advanced
+line-onward s p x m z h ex em e =
+    judged-onward p refl e refl ∙ ap (λ (y : Moved). advanced p y (nextOf x)) em
+    ∙ ap (λ (y : Line). advanced p (happened s (p .net) y) (nextOf y)) ex ∙ sym (line-next s p z h)
+
+-- a refused play changes no more
+pub next-again : (s : List ℕ) (k : ℕ) (first p : Play) {q : Play} → p ≡ repeatPlay k (nextPlay s) first → q ≡ nextPlay s p → (q .refusal ≡ 0 → ⊥) → k < length s
+    → q ≡ repeatPlay (length s) (nextPlay s) first
+next-again s k first p {q} e f n h = repeat-done (length s) (k + 1) (nextPlay s) first (omega arith) (repeat-more k (nextPlay s) first e f) (next-refused s q n)
 
 -- ---- line numbers
 abbrev Near : ℕ → Play → Type 0
@@ -159,20 +180,6 @@ faulty-near s m p h = unless-near m p _ h (go (faultyLine (p .net .n) s (p .at))
     go Neither = omega arith
     go (Both a b next) = marked-near m p a b next h
 
-event-near : (m : ℕ) (e : Event) (next : ℕ) (p : Play) → p .line ≤ m → Near m (eventPlay e next p)
-unfolding eventPlay advanced
-event-near m e next p h = judged-near m (moved (p .net) e .refusal) p (onwardPlay p (moved (p .net) e .net) next) h (onward-near m p (moved (p .net) e .net) next h)
-
-pub line-near : (s : List ℕ) (m : ℕ) (p : Play) → p .line ≤ m → linePlay s p .line ≤ m + 1
-unfolding linePlay toldPlay forgePlay
-line-near s m p h = go (eventLine (p .net .n) s (p .at))
-  where
-    go : (x : Line) → Near m (toldPlay s x p)
-    go (Start b next) = event-near m _ next p h
-    go (Carry a b k next) = event-near m _ next p h
-    go (Forge a b at count next) = event-near m _ next p h
-    go Wrong = refused-near m 13 p h
-
 pub ids-near : (s : List ℕ) (b m : ℕ) (p : Play) → p .line ≤ m → idPlays s b p .line ≤ m + b
 unfolding idPlays
 ids-near s zero m p h = omega arith
@@ -182,3 +189,13 @@ pub faulties-near : (s : List ℕ) (k m : ℕ) (p : Play) → p .line ≤ m → 
 unfolding repeatPlay
 faulties-near s zero m p h = omega arith
 faulties-near s (suc k) m p h = omega (arith, faulty-near s (m + k) (repeatPlay k (faultyPlay s) p) (faulties-near s k m p h))
+
+-- ---- a line that has its form has its bytes
+pub told-bytes : (n : ℕ) (s : List ℕ) (i : ℕ) → HasBytes s (eventLine n s i)
+told-bytes n s i = go (eventLine n s i) (event-told n s i)
+  where
+    go : (x : Line) → EventTold n s i x → HasBytes s x
+    go (Start b next) t = tt
+    go (Carry a b k next) t = tt
+    go (Forge a b at count next) t = (t .1 .0, t .1 .1 .0)
+    go Wrong t = tt

@@ -1,32 +1,58 @@
 -- `replay::history::play_history` meets its contract. Invariant: k lines are read. Once a line is turned down, or at the text's end, no line more changes anything.
 use native.Mathlib.Omega.{arith}
+use borrow.Author.Needs.{needs}
 use Prim.Native.Nat.{ℕ, _+_, _-_, _≤_}
-use mathlib.Core.Path.{_≡_, ap, _∙_}
+use mathlib.Core.Path.{_≡_, refl, sym, ap, _∙_, subst}
 use lib.ListN.{length}
 use denote.Ref.{now}
 use Rattle.replay.specs.declared.play.Play.{Play}
-use Rattle.replay.specs.Play.{nextPlay, repeatPlay}
-use Rattle.replay.specs.Play.Laws.{repeat-none, repeat-more, repeat-done, next-refused, next-ended, next-line, line-near}
+use Rattle.replay.specs.Play.{HasBytes, refusedPlay, onwardPlay, nextPlay, repeatPlay}
+use Rattle.replay.specs.Play.Laws.{repeat-none, repeat-more, repeat-done, next-refused, next-ended, line-refused, line-onward, next-again, told-bytes}
 use Rattle.replay.proofs.history.play_history.Statement.{statement}
 use Rattle.replay.proofs.history.play_history.Tie as tie
 
 abbrev Inv-loop : tie.InvT-loop
-Inv-loop s play₀ k₀ play k = (k ≤ length s) × ((play .line ≤ 600 + k) × (play ≡ repeatPlay k (nextPlay s) play₀))
+Inv-loop s net₀ at₀ number₀ k₀ net at number k = (k ≤ length s) × ((number ≤ 600 + k) × (_≡_ {A = Play} (record { net = net; at = at; line = number; refusal = 0 }) (repeatPlay k (nextPlay s) (record { net = net₀; at = at₀; line = number₀; refusal = 0 }))))
 
 abbrev μ-loop : tie.MeasureT-loop
-μ-loop s play₀ k₀ play k = length s - k
+μ-loop s net₀ at₀ number₀ k₀ net at number k = length s - k
 
-loop-holds : tie.Need-loop-holds Inv-loop μ-loop
-loop-holds c = (omega arith, (omega (arith, c .before .pre), repeat-none _ _))
+-- the play at the loop's beginning
+begin-is : (c : tie.After-net Inv-loop μ-loop) → _≡_ {A = Play} (record { net = c .before .before .before .before .args .first .net; at = c .before .before .before .before .args .first .at; line = c .before .before .before .before .args .first .line; refusal = 0 }) (c .before .before .before .before .args .first)
+begin-is c = ap (λ (r : ℕ). record { net = c .before .before .before .before .args .first .net; at = c .before .before .before .before .args .first .at; line = c .before .before .before .before .args .first .line; refusal = r }) (sym (c .before .if1 .left))
+
+-- the play as it is now
+abbrev here : (c : tie.At-loop Inv-loop μ-loop) → Play
+here c = record { net = c .loop .net; at = c .loop .at; line = c .loop .number; refusal = 0 }
+
+whole : (c : tie.At-loop Inv-loop μ-loop) {p : Play} → p ≡ repeatPlay (length (now (c .before .before .before .before .before .args .s))) (nextPlay (now (c .before .before .before .before .before .args .s))) (record { net = c .before .before .before .before .before .args .first .net; at = c .before .before .before .before .before .args .first .at; line = c .before .before .before .before .before .args .first .line; refusal = 0 })
+    → p ≡ repeatPlay (length (now (c .before .before .before .before .before .args .s))) (nextPlay (now (c .before .before .before .before .before .args .s))) (c .before .before .before .before .before .args .first)
+whole c e = e ∙ ap (λ (q : Play). repeatPlay (length (now (c .before .before .before .before .before .args .s))) (nextPlay (now (c .before .before .before .before .before .args .s))) q) (begin-is (c .before))
 
 returns : tie.Need-returns Inv-loop μ-loop
-returns c = repeat-done _ _ _ _ (c .before .before .before .loop .inv .0) (c .before .before .before .loop .inv .1 .1) (next-refused _ _ (c .if1 .taken))
+returns c = repeat-done _ _ _ _ (omega arith) (repeat-none _ _) (next-refused _ _ (c .if1 .taken))
+
+loop-holds : tie.Need-loop-holds Inv-loop μ-loop
+loop-holds c = (omega arith, (omega (arith, c .before .before .before .before .pre), repeat-none _ _))
 
 returns-2 : tie.Need-returns-2 Inv-loop μ-loop
-returns-2 c = repeat-done _ _ _ _ (c .before .before .before .before .before .loop .inv .0) (c .before .before .before .before .before .loop .inv .1 .1) (next-ended _ _ (c .before .before .if1 .left) (c .if2 .taken))
+returns-2 c = whole (c .before .before) (repeat-done _ _ _ _ (c .before .before .loop .inv .0) (c .before .before .loop .inv .1 .1) (next-ended _ _ refl (c .if2 .taken)))
 
-line-step-requires : tie.Need-line-step-requires Inv-loop μ-loop
-line-step-requires c κs = omega (arith, c .before .before .before .before .before .loop .inv .1 .0)
+event-line-requires : tie.Need-event-line-requires Inv-loop μ-loop
+event-line-requires c κs = search needs
+
+happen-requires : tie.Need-happen-requires Inv-loop μ-loop
+happen-requires c κs = subst (HasBytes (now (c .before .before .before .before .before .before .before .before .args .s))) (sym (c .event-line .ensures)) (told-bytes (c .before .before .before .loop .net .n) (now (c .before .before .before .before .before .before .before .before .args .s)) (c .before .before .before .loop .at))
+
+returns-3 : tie.Need-returns-3 Inv-loop μ-loop
+unfolding refusedPlay
+returns-3 c = whole (c .before .before .before .before .before) (next-again _ _ _ (here (c .before .before .before .before .before)) (c .before .before .before .before .before .loop .inv .1 .1) (line-refused (now (c .before .before .before .before .before .before .before .before .before .before .args .s)) (here (c .before .before .before .before .before)) _ _ refl (c .before .before .before .if2 .left) (c .before .before .event-line .ensures) (c .before .happen .ensures) (c .if3 .taken)) (c .if3 .taken) (c .before .before .before .before .loop-test .taken))
+
+next-of-requires : tie.Need-next-of-requires Inv-loop μ-loop
+next-of-requires c κs = search needs
+
+add-number : tie.Need-add-number Inv-loop μ-loop
+add-number c = omega (arith, c .before .before .before .before .before .before .before .loop .inv .1 .0)
 
 add-k : tie.Need-add-k Inv-loop μ-loop
 add-k c = omega arith
@@ -35,16 +61,11 @@ loop-less : tie.Need-loop-less Inv-loop μ-loop
 loop-less c = omega arith
 
 loop-again : tie.Need-loop-again Inv-loop μ-loop
-loop-again c = let I = c .before .before .before .before .before .before .loop .inv in (
-  omega arith,
-  (
-    omega (arith, ap (λ (p : Play). p .line) (c .line-step .ensures), line-near (now (c .before .before .before .before .before .before .before .before .args .s)) (600 + c .before .before .before .before .before .before .loop .k) (c .before .before .before .before .before .before .loop .play) (I .1 .0)),
-    repeat-more _ _ _ (I .1 .1) (next-line _ _ (c .before .before .before .if1 .left) (c .before .if2 .left) (c .line-step .ensures)),
-  ),
-)
+unfolding onwardPlay
+loop-again c = (omega arith, (omega (arith, c .before .before .before .before .before .before .before .loop .inv .1 .0), repeat-more _ _ _ (c .before .before .before .before .before .before .before .loop .inv .1 .1) (ap (λ (i : ℕ). record { net = c .before .before .before .happen .result .net; at = i; line = c .before .before .before .before .before .before .before .loop .number + 1; refusal = 0 }) (c .next-of .ensures) ∙ line-onward (now (c .before .before .before .before .before .before .before .before .before .before .before .before .args .s)) (here (c .before .before .before .before .before .before .before)) _ _ refl (c .before .before .before .before .before .if2 .left) (c .before .before .before .before .event-line .ensures) (c .before .before .before .happen .ensures) (c .before .before .if3 .left))))
 
-returns-3 : tie.Need-returns-3 Inv-loop μ-loop
-returns-3 c = c .before .loop .inv .1 .1 ∙ ap (λ (k : ℕ). repeatPlay k (nextPlay (now (c .before .before .before .args .s))) (c .before .before .before .args .first)) (omega (arith, c .before .loop .inv .0, c .loop-test .left))
+returns-4 : tie.Need-returns-4 Inv-loop μ-loop
+returns-4 c = whole (c .before) (c .before .loop .inv .1 .1 ∙ ap (λ (k : ℕ). repeatPlay k (nextPlay (now (c .before .before .before .before .before .before .args .s))) (record { net = c .before .before .before .before .before .before .args .first .net; at = c .before .before .before .before .before .before .args .first .at; line = c .before .before .before .before .before .before .args .first .line; refusal = 0 })) (omega (arith, c .before .loop .inv .0, c .loop-test .left)))
 
 pub play-history-spec : {M : Type 1} → statement M
 play-history-spec =
@@ -52,11 +73,15 @@ play-history-spec =
     (tie.spec
     Inv-loop
     μ-loop
-    loop-holds
     returns
+    loop-holds
     returns-2
-    line-step-requires
+    event-line-requires
+    happen-requires
+    returns-3
+    next-of-requires
+    add-number
     add-k
     loop-less
     loop-again
-    returns-3)
+    returns-4)
