@@ -29,11 +29,19 @@ enum-told-2 c = search needs
 
 returns-2 : tie.Need-returns-2
 unfolding twoAt
-returns-2 c = rw (sym (c .before .before .before .before .before .before .field-at .ensures) ∙ c .before .before .before .before .a .given .1, sym (c .before .before .field-at2 .ensures) ∙ c .enum-told2 .given .1)
+returns-2 c =
+    rw (
+      sym (c .before .before .before .before .before .before .field-at .ensures) ∙ c .before .before .before .before .a .given .1,
+      sym (c .before .before .field-at2 .ensures) ∙ c .enum-told2 .given .1,
+    )
 
 returns-3 : tie.Need-returns-3
 unfolding twoAt
-returns-3 c = rw (sym (c .before .before .before .before .before .before .before .field-at .ensures) ∙ c .before .before .before .before .before .a .given .1, sym (c .before .before .before .field-at2 .ensures) ∙ c .before .b .given .1)
+returns-3 c =
+    rw (
+      sym (c .before .before .before .before .before .before .before .field-at .ensures) ∙ c .before .before .before .before .before .a .given .1,
+      sym (c .before .before .before .field-at2 .ensures) ∙ c .before .b .given .1,
+    )
 
 pub two-at-spec : {M : Type 1} → statement M
 two-at-spec =

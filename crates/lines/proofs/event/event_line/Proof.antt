@@ -38,7 +38,11 @@ carry-fields-requires c κs = search needs
 
 returns-2 : tie.Need-returns-2
 unfolding eventLine
-returns-2 c = rw (sym (c .before .before .before .before .before .before .before .before .word-at .ensures) ∙ c .before .before .before .before .before .before .enum-told .given .1, sym (c .before .before .before .before .word-at2 .ensures) ∙ c .before .before .next2 .given .1) (c .carry-fields .ensures)
+returns-2 c =
+    rw (
+      sym (c .before .before .before .before .before .before .before .before .word-at .ensures) ∙ c .before .before .before .before .before .before .enum-told .given .1,
+      sym (c .before .before .before .before .word-at2 .ensures) ∙ c .before .before .next2 .given .1,
+    ) (c .carry-fields .ensures)
 
 enum-told-2 : tie.Need-enum-told-2
 enum-told-2 c = search needs
@@ -57,14 +61,24 @@ forge-fields-requires c κs = search needs
 
 returns-3 : tie.Need-returns-3
 unfolding eventLine
-returns-3 c = rw (sym (c .before .before .before .before .before .before .before .before .before .before .before .before .word-at .ensures) ∙ c .before .before .before .before .before .before .before .before .before .before .enum-told .given .1, sym (c .before .before .before .before .before .before .before .before .word-at2 .ensures) ∙ c .before .before .before .before .before .before .enum-told2 .given .1, sym (c .before .before .before .before .word-at3 .ensures) ∙ c .before .before .next3 .given .1) (c .forge-fields .ensures)
+returns-3 c =
+    rw (
+      sym (c .before .before .before .before .before .before .before .before .before .before .before .before .word-at .ensures) ∙ c .before .before .before .before .before .before .before .before .before .before .enum-told .given .1,
+      sym (c .before .before .before .before .before .before .before .before .word-at2 .ensures) ∙ c .before .before .before .before .before .before .enum-told2 .given .1,
+      sym (c .before .before .before .before .word-at3 .ensures) ∙ c .before .before .next3 .given .1,
+    ) (c .forge-fields .ensures)
 
 enum-told-3 : tie.Need-enum-told-3
 enum-told-3 c = search needs
 
 returns-4 : tie.Need-returns-4
 unfolding eventLine
-returns-4 c = rw (sym (c .before .before .before .before .before .before .before .before .before .before .word-at .ensures) ∙ c .before .before .before .before .before .before .before .before .enum-told .given .1, sym (c .before .before .before .before .before .before .word-at2 .ensures) ∙ c .before .before .before .before .enum-told2 .given .1, sym (c .before .before .word-at3 .ensures) ∙ c .enum-told3 .given .1)
+returns-4 c =
+    rw (
+      sym (c .before .before .before .before .before .before .before .before .before .before .word-at .ensures) ∙ c .before .before .before .before .before .before .before .before .enum-told .given .1,
+      sym (c .before .before .before .before .before .before .word-at2 .ensures) ∙ c .before .before .before .before .enum-told2 .given .1,
+      sym (c .before .before .word-at3 .ensures) ∙ c .enum-told3 .given .1,
+    )
 
 pub event-line-spec : {M : Type 1} → statement M
 event-line-spec =

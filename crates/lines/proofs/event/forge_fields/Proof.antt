@@ -32,24 +32,40 @@ enum-told-2 c = search needs
 
 returns-2 : tie.Need-returns-2
 unfolding forgeFields
-returns-2 c = rw (sym (c .before .before .before .before .before .before .two-at .ensures) ∙ c .before .before .before .before .a .given .1, sym (c .before .before .hex-at .ensures) ∙ c .enum-told2 .given .1)
+returns-2 c =
+    rw (
+      sym (c .before .before .before .before .before .before .two-at .ensures) ∙ c .before .before .before .before .a .given .1,
+      sym (c .before .before .hex-at .ensures) ∙ c .enum-told2 .given .1,
+    )
 
 two-bases-requires : tie.Need-two-bases-requires
 two-bases-requires c κs = search needs
 
 cast-t13 : tie.Need-cast-t13
-cast-t13 c = omega (arith, base-range (c .before .before .before .before .before .before .before .before .before .before .before .args .n) _ (two-range (c .before .before .before .before .before .before .before .before .before .before .before .args .n) _ _ (sym (c .before .two-bases .ensures) ∙ c .if1 .taken) .0) .1)
+cast-t13 c =
+    omega (arith, base-range (c .before .before .before .before .before .before .before .before .before .before .before .args .n) _ (two-range (c .before .before .before .before .before .before .before .before .before .before .before .args .n) _ _ (sym (c .before .two-bases .ensures) ∙ c .if1 .taken) .0) .1)
 
 cast-t14 : tie.Need-cast-t14
-cast-t14 c = omega (arith, base-range (c .before .before .before .before .before .before .before .before .before .before .before .args .n) _ (two-range (c .before .before .before .before .before .before .before .before .before .before .before .args .n) _ _ (sym (c .before .two-bases .ensures) ∙ c .if1 .taken) .1 .0) .1)
+cast-t14 c =
+    omega (arith, base-range (c .before .before .before .before .before .before .before .before .before .before .before .args .n) _ (two-range (c .before .before .before .before .before .before .before .before .before .before .before .args .n) _ _ (sym (c .before .two-bases .ensures) ∙ c .if1 .taken) .1 .0) .1)
 
 returns-3 : tie.Need-returns-3
 unfolding forgeFields choose
-returns-3 c = rw (sym (c .before .before .before .before .before .before .before .before .before .two-at .ensures) ∙ c .before .before .before .before .before .before .before .a .given .1, sym (c .before .before .before .before .before .hex-at .ensures) ∙ c .before .before .before .count .given .1, sym (c .before .two-bases .ensures) ∙ c .if1 .taken)
+returns-3 c =
+    rw (
+      sym (c .before .before .before .before .before .before .before .before .before .two-at .ensures) ∙ c .before .before .before .before .before .before .before .a .given .1,
+      sym (c .before .before .before .before .before .hex-at .ensures) ∙ c .before .before .before .count .given .1,
+      sym (c .before .two-bases .ensures) ∙ c .if1 .taken,
+    )
 
 returns-4 : tie.Need-returns-4
 unfolding forgeFields choose
-returns-4 c = rw (sym (c .before .before .before .before .before .before .before .before .before .two-at .ensures) ∙ c .before .before .before .before .before .before .before .a .given .1, sym (c .before .before .before .before .before .hex-at .ensures) ∙ c .before .before .before .count .given .1, sym (c .before .two-bases .ensures) ∙ c .if1 .left)
+returns-4 c =
+    rw (
+      sym (c .before .before .before .before .before .before .before .before .before .two-at .ensures) ∙ c .before .before .before .before .before .before .before .a .given .1,
+      sym (c .before .before .before .before .before .hex-at .ensures) ∙ c .before .before .before .count .given .1,
+      sym (c .before .two-bases .ensures) ∙ c .if1 .left,
+    )
 
 pub forge-fields-spec : {M : Type 1} → statement M
 forge-fields-spec =

@@ -25,15 +25,24 @@ is-base-requires : tie.Need-is-base-requires
 is-base-requires c κs = search needs
 
 cast-t9 : tie.Need-cast-t9
-cast-t9 c = omega (arith, base-range (c .before .before .before .before .before .before .before .args .n) _ (sym (c .before .is-base .ensures) ∙ c .if1 .taken) .1)
+cast-t9 c =
+    omega (arith, base-range (c .before .before .before .before .before .before .before .args .n) _ (sym (c .before .is-base .ensures) ∙ c .if1 .taken) .1)
 
 returns-2 : tie.Need-returns-2
 unfolding startFields choose
-returns-2 c = rw (sym (c .before .before .before .before .before .field-at .ensures) ∙ c .before .before .before .b .given .1, sym (c .before .is-base .ensures) ∙ c .if1 .taken)
+returns-2 c =
+    rw (
+      sym (c .before .before .before .before .before .field-at .ensures) ∙ c .before .before .before .b .given .1,
+      sym (c .before .is-base .ensures) ∙ c .if1 .taken,
+    )
 
 returns-3 : tie.Need-returns-3
 unfolding startFields choose
-returns-3 c = rw (sym (c .before .before .before .before .before .field-at .ensures) ∙ c .before .before .before .b .given .1, sym (c .before .is-base .ensures) ∙ c .if1 .left)
+returns-3 c =
+    rw (
+      sym (c .before .before .before .before .before .field-at .ensures) ∙ c .before .before .before .b .given .1,
+      sym (c .before .is-base .ensures) ∙ c .if1 .left,
+    )
 
 pub start-fields-spec : {M : Type 1} → statement M
 start-fields-spec =

@@ -34,7 +34,11 @@ enum-told-2 c = search needs
 
 returns-2 : tie.Need-returns-2
 unfolding faultyLine
-returns-2 c = rw (sym (c .before .before .before .before .before .before .word-at .ensures) ∙ c .before .before .before .before .next .given .1, sym (c .before .before .two-at .ensures) ∙ c .enum-told2 .given .1)
+returns-2 c =
+    rw (
+      sym (c .before .before .before .before .before .before .word-at .ensures) ∙ c .before .before .before .before .next .given .1,
+      sym (c .before .before .two-at .ensures) ∙ c .enum-told2 .given .1,
+    )
 
 is-base-requires : tie.Need-is-base-requires
 is-base-requires c κs = search needs
@@ -44,19 +48,44 @@ is-base-requires-2 c κs = search needs
 
 returns-3 : tie.Need-returns-3
 unfolding faultyLine choose and
-returns-3 c = rw (sym (c .before .before .before .before .before .before .before .before .before .before .before .before .word-at .ensures) ∙ c .before .before .before .before .before .before .before .before .before .before .next .given .1, sym (c .before .before .before .before .before .before .before .before .two-at .ensures) ∙ c .before .before .before .before .before .before .a .given .1, sym (c .before .before .before .before .is-base .ensures) ∙ c .before .before .before .if1 .taken, sym (c .before .before .is-base2 .ensures) ∙ c .before .if2 .taken, lt-ltb _ _ (c .if3 .taken))
+returns-3 c =
+    rw (
+      sym (c .before .before .before .before .before .before .before .before .before .before .before .before .word-at .ensures) ∙ c .before .before .before .before .before .before .before .before .before .before .next .given .1,
+      sym (c .before .before .before .before .before .before .before .before .two-at .ensures) ∙ c .before .before .before .before .before .before .a .given .1,
+      sym (c .before .before .before .before .is-base .ensures) ∙ c .before .before .before .if1 .taken,
+      sym (c .before .before .is-base2 .ensures) ∙ c .before .if2 .taken,
+      lt-ltb _ _ (c .if3 .taken),
+    )
 
 returns-4 : tie.Need-returns-4
 unfolding faultyLine choose and
-returns-4 c = rw (sym (c .before .before .before .before .before .before .before .before .before .before .before .before .word-at .ensures) ∙ c .before .before .before .before .before .before .before .before .before .before .next .given .1, sym (c .before .before .before .before .before .before .before .before .two-at .ensures) ∙ c .before .before .before .before .before .before .a .given .1, sym (c .before .before .before .before .is-base .ensures) ∙ c .before .before .before .if1 .taken, sym (c .before .before .is-base2 .ensures) ∙ c .before .if2 .taken, le-ltb _ _ (c .if3 .left))
+returns-4 c =
+    rw (
+      sym (c .before .before .before .before .before .before .before .before .before .before .before .before .word-at .ensures) ∙ c .before .before .before .before .before .before .before .before .before .before .next .given .1,
+      sym (c .before .before .before .before .before .before .before .before .two-at .ensures) ∙ c .before .before .before .before .before .before .a .given .1,
+      sym (c .before .before .before .before .is-base .ensures) ∙ c .before .before .before .if1 .taken,
+      sym (c .before .before .is-base2 .ensures) ∙ c .before .if2 .taken,
+      le-ltb _ _ (c .if3 .left),
+    )
 
 returns-5 : tie.Need-returns-5
 unfolding faultyLine choose and
-returns-5 c = rw (sym (c .before .before .before .before .before .before .before .before .before .before .before .word-at .ensures) ∙ c .before .before .before .before .before .before .before .before .before .next .given .1, sym (c .before .before .before .before .before .before .before .two-at .ensures) ∙ c .before .before .before .before .before .a .given .1, sym (c .before .before .before .is-base .ensures) ∙ c .before .before .if1 .taken, sym (c .before .is-base2 .ensures) ∙ c .if2 .left)
+returns-5 c =
+    rw (
+      sym (c .before .before .before .before .before .before .before .before .before .before .before .word-at .ensures) ∙ c .before .before .before .before .before .before .before .before .before .next .given .1,
+      sym (c .before .before .before .before .before .before .before .two-at .ensures) ∙ c .before .before .before .before .before .a .given .1,
+      sym (c .before .before .before .is-base .ensures) ∙ c .before .before .if1 .taken,
+      sym (c .before .is-base2 .ensures) ∙ c .if2 .left,
+    )
 
 returns-6 : tie.Need-returns-6
 unfolding faultyLine choose and
-returns-6 c = rw (sym (c .before .before .before .before .before .before .before .before .before .word-at .ensures) ∙ c .before .before .before .before .before .before .before .next .given .1, sym (c .before .before .before .before .before .two-at .ensures) ∙ c .before .before .before .a .given .1, sym (c .before .is-base .ensures) ∙ c .if1 .left)
+returns-6 c =
+    rw (
+      sym (c .before .before .before .before .before .before .before .before .before .word-at .ensures) ∙ c .before .before .before .before .before .before .before .next .given .1,
+      sym (c .before .before .before .before .before .two-at .ensures) ∙ c .before .before .before .a .given .1,
+      sym (c .before .is-base .ensures) ∙ c .if1 .left,
+    )
 
 pub faulty-line-spec : {M : Type 1} → statement M
 faulty-line-spec =

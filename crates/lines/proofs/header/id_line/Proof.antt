@@ -34,15 +34,29 @@ enum-told-2 c = search needs
 
 returns-2 : tie.Need-returns-2
 unfolding idLine
-returns-2 c = rw (sym (c .before .before .before .before .before .before .word-at .ensures) ∙ c .before .before .before .before .next .given .1, sym (c .before .before .two-at .ensures) ∙ c .enum-told2 .given .1)
+returns-2 c =
+    rw (
+      sym (c .before .before .before .before .before .before .word-at .ensures) ∙ c .before .before .before .before .next .given .1,
+      sym (c .before .before .two-at .ensures) ∙ c .enum-told2 .given .1,
+    )
 
 returns-3 : tie.Need-returns-3
 unfolding idLine choose
-returns-3 c = rw (sym (c .before .before .before .before .before .before .before .before .word-at .ensures) ∙ c .before .before .before .before .before .before .next .given .1, sym (c .before .before .before .before .two-at .ensures) ∙ c .before .before .base .given .1, eq-eqb _ _ (c .if1 .taken))
+returns-3 c =
+    rw (
+      sym (c .before .before .before .before .before .before .before .before .word-at .ensures) ∙ c .before .before .before .before .before .before .next .given .1,
+      sym (c .before .before .before .before .two-at .ensures) ∙ c .before .before .base .given .1,
+      eq-eqb _ _ (c .if1 .taken),
+    )
 
 returns-4 : tie.Need-returns-4
 unfolding idLine choose
-returns-4 c = rw (sym (c .before .before .before .before .before .before .before .before .word-at .ensures) ∙ c .before .before .before .before .before .before .next .given .1, sym (c .before .before .before .before .two-at .ensures) ∙ c .before .before .base .given .1, ne-eqb _ _ (c .if1 .left))
+returns-4 c =
+    rw (
+      sym (c .before .before .before .before .before .before .before .before .word-at .ensures) ∙ c .before .before .before .before .before .before .next .given .1,
+      sym (c .before .before .before .before .two-at .ensures) ∙ c .before .before .base .given .1,
+      ne-eqb _ _ (c .if1 .left),
+    )
 
 pub id-line-spec : {M : Type 1} → statement M
 id-line-spec =

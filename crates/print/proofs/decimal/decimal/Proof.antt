@@ -29,13 +29,15 @@ array-write-bytes : tie.Need-array-write-bytes Inv-loop μ-loop
 array-write-bytes c = search needs
 
 returns : tie.Need-returns Inv-loop μ-loop
-returns c = (omega arith, (simp length-set (c .before .before .before .loop .inv .1 .0), digits-last _ _ _ _ _ (c .before .before .loop-test .taken) (omega arith) (c .if1 .taken) (c .before .digit .ensures) (c .before .before .before .loop .inv .1 .1)))
+returns c =
+    (omega arith, (simp length-set (c .before .before .before .loop .inv .1 .0), digits-last _ _ _ _ _ (c .before .before .loop-test .taken) (omega arith) (c .if1 .taken) (c .before .digit .ensures) (c .before .before .before .loop .inv .1 .1)))
 
 loop-less : tie.Need-loop-less Inv-loop μ-loop
 loop-less c = search needs
 
 loop-again : tie.Need-loop-again Inv-loop μ-loop
-loop-again c = (omega arith, (simp length-set (c .before .before .before .loop .inv .1 .0), digits-more _ _ _ _ _ (c .before .before .loop-test .taken) (omega arith) (c .if1 .left) (c .before .digit .ensures) (c .before .before .before .loop .inv .1 .1)))
+loop-again c =
+    (omega arith, (simp length-set (c .before .before .before .loop .inv .1 .0), digits-more _ _ _ _ _ (c .before .before .loop-test .taken) (omega arith) (c .if1 .left) (c .before .digit .ensures) (c .before .before .before .loop .inv .1 .1)))
 
 returns-2 : tie.Need-returns-2 Inv-loop μ-loop
 returns-2 c = (omega arith, (c .before .loop .inv .1 .0, digits-all _ _ _ _ (c .loop-test .left) (c .before .loop .inv .1 .1)))

@@ -22,11 +22,13 @@ returns c = rw (sym (c .before .before .hex-from .ensures) ∙ c .enum-told .giv
 
 returns-2 : tie.Need-returns-2
 unfolding hexAt atMostBurst
-returns-2 c = rw (sym (c .before .before .before .before .hex-from .ensures) ∙ c .before .before .count .given .1) (chosen-yes _ (lt-ltb _ _ (c .if1 .taken)) refl)
+returns-2 c =
+    rw (sym (c .before .before .before .before .hex-from .ensures) ∙ c .before .before .count .given .1) (chosen-yes _ (lt-ltb _ _ (c .if1 .taken)) refl)
 
 returns-3 : tie.Need-returns-3
 unfolding hexAt atMostBurst
-returns-3 c = rw (sym (c .before .before .before .before .hex-from .ensures) ∙ c .before .before .count .given .1) (chosen-no _ (le-ltb _ _ (c .if1 .left)) refl)
+returns-3 c =
+    rw (sym (c .before .before .before .before .hex-from .ensures) ∙ c .before .before .count .given .1) (chosen-no _ (le-ltb _ _ (c .if1 .left)) refl)
 
 pub hex-at-spec : {M : Type 1} → statement M
 hex-at-spec =

@@ -21,16 +21,19 @@ loop-holds : tie.Need-loop-holds Inv-loop μ-loop
 loop-holds c = (omega arith, (omega arith, (omega arith, array-none (c .before .args .s .now) (c .before .args .at))))
 
 returns : tie.Need-returns Inv-loop μ-loop
-returns c = c .before .before .loop .inv .1 .1 .1 ∙ sym (array-all _ _ _ _ (c .before .before .loop .inv .1 .0) (c .before .before .loop .inv .0) (c .if1 .taken))
+returns c =
+    c .before .before .loop .inv .1 .1 .1 ∙ sym (array-all _ _ _ _ (c .before .before .loop .inv .1 .0) (c .before .before .loop .inv .0) (c .if1 .taken))
 
 returns-2 : tie.Need-returns-2 Inv-loop μ-loop
-returns-2 c = c .before .before .before .loop .inv .1 .1 .1 ∙ sym (array-short _ _ _ _ (c .before .before .before .loop .inv .1 .0) (c .before .before .before .loop .inv .0) (omega arith))
+returns-2 c =
+    c .before .before .before .loop .inv .1 .1 .1 ∙ sym (array-short _ _ _ _ (c .before .before .before .loop .inv .1 .0) (c .before .before .before .loop .inv .0) (omega arith))
 
 sub-if3 : tie.Need-sub-if3 Inv-loop μ-loop
 sub-if3 c = search needs
 
 returns-3 : tie.Need-returns-3 Inv-loop μ-loop
-returns-3 c = c .before .before .before .before .loop .inv .1 .1 .1 ∙ sym (array-short _ _ _ _ (c .before .before .before .before .loop .inv .1 .0) (c .before .before .before .before .loop .inv .0) (omega arith))
+returns-3 c =
+    c .before .before .before .before .loop .inv .1 .1 .1 ∙ sym (array-short _ _ _ _ (c .before .before .before .before .loop .inv .1 .0) (c .before .before .before .before .loop .inv .0) (omega arith))
 
 shared-slice-read-hex-pair : tie.Need-shared-slice-read-hex-pair Inv-loop μ-loop
 shared-slice-read-hex-pair c = search needs
@@ -57,7 +60,8 @@ loop-less : tie.Need-loop-less Inv-loop μ-loop
 loop-less c = search needs
 
 loop-again : tie.Need-loop-again Inv-loop μ-loop
-loop-again c = (omega arith, (omega arith, (omega arith, array-more _ _ _ (c .before .before .before .before .before .before .before .loop .p) (c .before .before .before .before .before .before .loop-test .taken) (c .before .before .before .before .before .before .before .loop .inv .1 .1 .0) (omega arith) (c .before .before .before .before .before .before .before .loop .inv .1 .1 .1) (c .hex-pair .ensures))))
+loop-again c =
+    (omega arith, (omega arith, (omega arith, array-more _ _ _ (c .before .before .before .before .before .before .before .loop .p) (c .before .before .before .before .before .before .loop-test .taken) (c .before .before .before .before .before .before .before .loop .inv .1 .1 .0) (omega arith) (c .before .before .before .before .before .before .before .loop .inv .1 .1 .1) (c .hex-pair .ensures))))
 
 returns-4 : tie.Need-returns-4 Inv-loop μ-loop
 returns-4 c = c .before .loop .inv .1 .1 .1 ∙ sym (array-full _ _ _ _ (c .before .loop .inv .1 .0) (c .loop-test .left) (c .before .loop .inv .0))

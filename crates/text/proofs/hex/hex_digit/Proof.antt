@@ -24,11 +24,13 @@ sub-result c = search needs
 
 returns-4 : tie.Need-returns-4
 unfolding hexDigit and choose
-returns-4 c = (rw (le-leb 48 _ (c .before .before .before .if1 .left), lt-leb _ 57 (c .before .before .if2 .left), le-leb 97 _ (c .before .if3 .left), le-leb _ 102 (c .if4 .taken)), omega arith)
+returns-4 c =
+    (rw (le-leb 48 _ (c .before .before .before .if1 .left), lt-leb _ 57 (c .before .before .if2 .left), le-leb 97 _ (c .before .if3 .left), le-leb _ 102 (c .if4 .taken)), omega arith)
 
 returns-5 : tie.Need-returns-5
 unfolding hexDigit and choose
-returns-5 c = (rw (le-leb 48 _ (c .before .before .before .if1 .left), lt-leb _ 57 (c .before .before .if2 .left), le-leb 97 _ (c .before .if3 .left), lt-leb _ 102 (c .if4 .left)), omega arith)
+returns-5 c =
+    (rw (le-leb 48 _ (c .before .before .before .if1 .left), lt-leb _ 57 (c .before .before .if2 .left), le-leb 97 _ (c .before .if3 .left), lt-leb _ 102 (c .if4 .left)), omega arith)
 
 pub hex-digit-spec : {M : Type 1} → statement M
 hex-digit-spec = tie.close (tie.spec returns returns-2 returns-3 sub-result returns-4 returns-5)

@@ -31,7 +31,8 @@ sub-if2 : tie.Need-sub-if2 Inv-loop μ-loop
 sub-if2 c = search needs
 
 returns-2 : tie.Need-returns-2 Inv-loop μ-loop
-returns-2 c = sym (c .before .before .before .before .loop .inv .1 ∙ from-odd _ _ _ (c .before .before .before .loop-test .taken) (c .before .if1 .left) (c .if2 .taken))
+returns-2 c =
+    sym (c .before .before .before .before .loop .inv .1 ∙ from-odd _ _ _ (c .before .before .before .loop-test .taken) (c .before .if1 .left) (c .if2 .taken))
 
 shared-slice-read-is-hex : tie.Need-shared-slice-read-is-hex Inv-loop μ-loop
 shared-slice-read-is-hex c = search needs
@@ -58,13 +59,16 @@ loop-less : tie.Need-loop-less Inv-loop μ-loop
 loop-less c = search needs
 
 loop-again : tie.Need-loop-again Inv-loop μ-loop
-loop-again c = (omega arith, c .before .before .before .before .before .before .before .before .before .before .loop .inv .1 ∙ from-pair _ _ _ (c .before .before .before .before .before .before .before .before .before .loop-test .taken) (c .before .before .before .before .before .before .before .if1 .left) (c .before .before .before .before .before .before .if2 .left) (sym (c .before .before .before .before .is-hex .ensures) ∙ c .before .before .before .if3 .taken) (sym (c .before .is-hex2 .ensures) ∙ c .if4 .taken))
+loop-again c =
+    (omega arith, c .before .before .before .before .before .before .before .before .before .before .loop .inv .1 ∙ from-pair _ _ _ (c .before .before .before .before .before .before .before .before .before .loop-test .taken) (c .before .before .before .before .before .before .before .if1 .left) (c .before .before .before .before .before .before .if2 .left) (sym (c .before .before .before .before .is-hex .ensures) ∙ c .before .before .before .if3 .taken) (sym (c .before .is-hex2 .ensures) ∙ c .if4 .taken))
 
 returns-3 : tie.Need-returns-3 Inv-loop μ-loop
-returns-3 c = sym (c .before .before .before .before .before .before .before .before .before .before .loop .inv .1 ∙ from-second _ _ _ (c .before .before .before .before .before .before .before .before .before .loop-test .taken) (c .before .before .before .before .before .before .before .if1 .left) (c .before .before .before .before .before .before .if2 .left) (sym (c .before .is-hex2 .ensures) ∙ c .if4 .left))
+returns-3 c =
+    sym (c .before .before .before .before .before .before .before .before .before .before .loop .inv .1 ∙ from-second _ _ _ (c .before .before .before .before .before .before .before .before .before .loop-test .taken) (c .before .before .before .before .before .before .before .if1 .left) (c .before .before .before .before .before .before .if2 .left) (sym (c .before .is-hex2 .ensures) ∙ c .if4 .left))
 
 returns-4 : tie.Need-returns-4 Inv-loop μ-loop
-returns-4 c = sym (c .before .before .before .before .before .before .before .loop .inv .1 ∙ from-first _ _ _ (c .before .before .before .before .before .before .loop-test .taken) (c .before .before .before .before .if1 .left) (c .before .before .before .if2 .left) (sym (c .before .is-hex .ensures) ∙ c .if3 .left))
+returns-4 c =
+    sym (c .before .before .before .before .before .before .before .loop .inv .1 ∙ from-first _ _ _ (c .before .before .before .before .before .before .loop-test .taken) (c .before .before .before .before .if1 .left) (c .before .before .before .if2 .left) (sym (c .before .is-hex .ensures) ∙ c .if3 .left))
 
 returns-5 : tie.Need-returns-5 Inv-loop μ-loop
 returns-5 c = sym (c .before .loop .inv .1 ∙ from-end _ _ _ (c .loop-test .left))

@@ -31,7 +31,8 @@ cast-t13 : tie.Need-cast-t13 Inv-loop μ-loop
 cast-t13 c = search needs
 
 returns-2 : tie.Need-returns-2 Inv-loop μ-loop
-returns-2 c = sym (c .before .before .before .before .loop .inv .1 ∙ digits-close _ _ _ (c .before .before .before .loop-test .taken) (above-digits (c .if2 .taken)))
+returns-2 c =
+    sym (c .before .before .before .before .loop .inv .1 ∙ digits-close _ _ _ (c .before .before .before .loop-test .taken) (above-digits (c .if2 .taken)))
 
 mul-more : tie.Need-mul-more Inv-loop μ-loop
 mul-more c = search needs
@@ -43,7 +44,8 @@ add-more : tie.Need-add-more Inv-loop μ-loop
 add-more c = search needs
 
 returns-3 : tie.Need-returns-3 Inv-loop μ-loop
-returns-3 c = sym (c .before .before .before .before .before .before .loop .inv .1 ∙ digits-over _ _ _ _ (c .before .before .before .before .before .loop-test .taken) (digit (c .before .before .before .if1 .left) (c .before .before .if2 .left)) (omega (arith, c .before .wide .ensures)) (c .if3 .taken))
+returns-3 c =
+    sym (c .before .before .before .before .before .before .loop .inv .1 ∙ digits-over _ _ _ _ (c .before .before .before .before .before .loop-test .taken) (digit (c .before .before .before .if1 .left) (c .before .before .if2 .left)) (omega (arith, c .before .wide .ensures)) (c .if3 .taken))
 
 add-i : tie.Need-add-i Inv-loop μ-loop
 add-i c = search needs
@@ -52,7 +54,8 @@ loop-less : tie.Need-loop-less Inv-loop μ-loop
 loop-less c = search needs
 
 loop-again : tie.Need-loop-again Inv-loop μ-loop
-loop-again c = (c .if3 .left, c .before .before .before .before .before .before .loop .inv .1 ∙ digits-more _ _ _ _ (c .before .before .before .before .before .loop-test .taken) (digit (c .before .before .before .if1 .left) (c .before .before .if2 .left)) (omega (arith, c .before .wide .ensures)) (c .if3 .left))
+loop-again c =
+    (c .if3 .left, c .before .before .before .before .before .before .loop .inv .1 ∙ digits-more _ _ _ _ (c .before .before .before .before .before .loop-test .taken) (digit (c .before .before .before .if1 .left) (c .before .before .if2 .left)) (omega (arith, c .before .wide .ensures)) (c .if3 .left))
 
 cast-t16 : tie.Need-cast-t16 Inv-loop μ-loop
 cast-t16 c = search needs

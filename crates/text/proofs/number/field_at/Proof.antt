@@ -31,11 +31,13 @@ add-t12 c = search needs
 
 returns-3 : tie.Need-returns-3
 unfolding fieldAt
-returns-3 c = rw (sym (c .before .before .before .before .before .before .number-at .ensures) ∙ c .before .before .before .before .v .given .1) (sym (closed-here _ _ _ _ (c .before .before .if1 .left) (c .if2 .taken)))
+returns-3 c =
+    rw (sym (c .before .before .before .before .before .before .number-at .ensures) ∙ c .before .before .before .before .v .given .1) (sym (closed-here _ _ _ _ (c .before .before .if1 .left) (c .if2 .taken)))
 
 returns-4 : tie.Need-returns-4
 unfolding fieldAt
-returns-4 c = rw (sym (c .before .before .before .before .before .before .number-at .ensures) ∙ c .before .before .before .before .v .given .1) (sym (closed-other _ _ _ _ (c .if2 .left)))
+returns-4 c =
+    rw (sym (c .before .before .before .before .before .before .number-at .ensures) ∙ c .before .before .before .before .v .given .1) (sym (closed-other _ _ _ _ (c .if2 .left)))
 
 pub field-at-spec : {M : Type 1} → statement M
 field-at-spec =

@@ -33,7 +33,8 @@ digits-from-requires : tie.Need-digits-from-requires
 digits-from-requires c κs = search needs
 
 returns-5 : tie.Need-returns-5
-returns-5 c = c .digits-from .ensures ∙ sym (number-digits _ _ _ (c .before .before .before .before .before .before .if1 .left) (digit (c .before .before .before .before .if2 .left) (c .before .before .before .if3 .left)) (c .before .before .if4 .left) (c .before .wide .ensures))
+returns-5 c =
+    c .digits-from .ensures ∙ sym (number-digits _ _ _ (c .before .before .before .before .before .before .if1 .left) (digit (c .before .before .before .before .if2 .left) (c .before .before .before .if3 .left)) (c .before .before .if4 .left) (c .before .wide .ensures))
 
 pub number-at-spec : {M : Type 1} → statement M
 number-at-spec =
