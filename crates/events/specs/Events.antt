@@ -1,18 +1,20 @@
 -- What an event does to the program's net. The call, and the number by which the event is turned down, are those of protocol's Net, for the net that the
 -- program's net stands for.
-use Prim.Native.Nat.{ℕ}
-use mathlib.Core.List.{List}
+use Prim.Native.Nat.{ℕ, _-_}
+use mathlib.Core.List.{List, []}
 use lib.Dec.{eqb, ltb}
-use lib.ListN.{length}
-use Rattle.lists.specs.Choice.{choose, and, or}
-use Rattle.protocol.specs.Net.{Event, starts, carry, forge, at, good, call, eventRefusal, refusal}
+use lib.ListN.{length, getD}
+use Rattle.lists.specs.Choice.{choose, and, or, first}
+use Rattle.limits.specs.Limits.{outputRoom}
+use Rattle.protocol.specs.Numbering.{linkTo}
+use Rattle.protocol.specs.Steps.{Done, arrival}
+use Rattle.protocol.specs.Net.{Event, starts, carry, forge, at, good, call, callRefusal, eventRefusal, refusal}
 use Rattle.protocol.specs.Net as Nets
 use Rattle.node.specs.declared.Node.{Node}
-use Rattle.calls.specs.declared.Told.{Told}
 use Rattle.node.specs.Node.{logOf, heardBy, marked}
 use Rattle.node.specs.Node as Nodes
 use Rattle.net.specs.declared.Net.{Net}
-use Rattle.events.specs.declared.Moved.{Moved}
+use Rattle.events.specs.declared.Reached.{Reached}
 use Rattle.net.specs.Shown.{nodeAt, withNode, shown, faultyOf}
 pub mod Laws
 
@@ -26,7 +28,11 @@ marks (forge a b bytes room) v = v
 unfoldable pub after : Net → Event → Net
 after w e = choose (eqb (refusal (faultyOf w) (shown w) e) 0) (withNode w (at e) (marks e (Nodes.after (nodeAt w (at e)) (call (shown w) e)))) w
 
--- the net, and the number by which a line of a schedule is refused: a burst that the base's call turns down leaves the schedule running
+-- the net after an event, beside the number by which a line of a schedule is refused: a burst that the base's call turns down leaves the schedule running
+pub record Moved : Type 0 where
+  pub refusal : ℕ
+  pub net : Net
+
 unfoldable pub moved : Net → Event → Moved
 moved w e = record { refusal = eventRefusal (faultyOf w) (shown w) e; net = after w e }
 
@@ -38,6 +44,18 @@ carryRefusal v u faulty a b k =
     (choose (and (good faulty a b) (heardBy u a k)) 17
     0)
 
--- base b after a call that was not turned down
-unfoldable pub reached : Net → ℕ → Told → Moved
-reached w b told = record { refusal = 0; net = choose (eqb (told .refusal) 0) (withNode w b (told .node)) w }
+-- a carry, of the sender and the receiver: the receiver as it leaves it
+unfoldable pub carryCall : Node → Node → ℕ → ℕ → ℕ → Done
+carryCall v u a b k = arrival (u .base) (linkTo b a) (getD (logOf v) (k - 1) []) outputRoom
+
+unfoldable pub carriedTo : Node → Node → List Nets.Pair → ℕ → ℕ → ℕ → Reached
+carriedTo v u faulty a b k =
+    let n = carryRefusal v u faulty a b k in
+    let d = carryCall v u a b k in
+    record { refusal = n; node = choose (eqb (first n (callRefusal (d .answer))) 0) (marked (Nodes.after u d) a k) u }
+
+-- a forgery: a call that is turned down leaves the receiver as it was
+unfoldable pub forgedTo : Node → List Nets.Pair → ℕ → ℕ → List ℕ → Reached
+forgedTo u faulty a b bytes =
+    choose (good faulty a b) (record { refusal = 18; node = u })
+    (record { refusal = 0; node = Nodes.after u (arrival (u .base) (linkTo b a) bytes outputRoom) })

@@ -1,12 +1,9 @@
-// The events of a history: a start, a carry, a forgery. An event that is turned down, by 16 to 18 or by the base's call, changes nothing.
-use calls::Told;
+// A carry and a forgery, each on the nodes that it names. What is turned down, by 16 to 18 or by the base's call, leaves the base that it would reach
+// as it was. A start is the call alone (crate `calls`). specs/Stands.antt has what these do to the net.
 use calls::hear;
 use calls::hear_frame;
 use net::Faulty;
-use net::Net;
 use net::links::is_good;
-use net::nodes::node_at;
-use net::nodes::with_node;
 use node::Node;
 use node::log::broadcast;
 use node::log::broadcasts;
@@ -16,36 +13,13 @@ use numbering::link_to;
 use reader::Reading;
 use reader::read;
 ghost use mathlib.Core.Path.{_≡_};
-ghost use Rattle.limits.specs.Limits.{outputRoom};
-ghost use Rattle.protocol.specs.Net as Nets;
 ghost use Rattle.net.specs.Shown.{pairsOf};
-ghost use Rattle.events.specs.Events.{carryRefusal, reached, moved};
+ghost use Rattle.events.specs.Events.{carryRefusal, carriedTo, forgedTo};
 
-// The net after an event, beside 16, 17 or 18 where that turned the event down, else 0.
-pub struct Moved {
+// The base that an event reaches, as the event left it, beside 16, 17 or 18 where that turned the event down, else 0.
+pub struct Reached {
     pub refusal: u8,
-    pub net: Net,
-}
-
-// The net after a call on base b.
-fn reach(net: Net, b: u8, told: Told) -> Moved
-    ensures { λ r. ⌜ r ≡ reached net b told ⌝ }
-{
-    if told.refusal != 0 {
-        return Moved { refusal: 0, net };
-    }
-    let node = told.node;
-    Moved {
-        refusal: 0,
-        net: with_node(net, b, node),
-    }
-}
-
-// A start at b.
-pub fn start(net: Net, b: u8) -> Moved
-    ensures { λ r. ⌜ r ≡ moved net (Nets.starts b outputRoom) ⌝ }
-{
-    reach(net, b, calls::start(node_at(net, b)))
+    pub node: Node,
 }
 
 // Numbers 16 and 17, 0 for none.
@@ -67,37 +41,40 @@ fn carry_refusal(sender: Node, receiver: Node, faulty: Faulty, a: u8, b: u8, k: 
 }
 
 // a's k-th broadcast arrives at b.
-pub fn carry(net: Net, a: u8, b: u8, k: usize) -> Moved
-    ensures { λ r. ⌜ r ≡ moved net (Nets.carry a b k outputRoom) ⌝ }
+pub fn carry(sender: Node, receiver: Node, faulty: Faulty, a: u8, b: u8, k: usize) -> Reached
+    ensures { λ r. ⌜ r ≡ carriedTo sender receiver (pairsOf faulty) a b k ⌝ }
 {
-    let sender = node_at(net, a);
-    let receiver = node_at(net, b);
-    let faulty = net.faulty;
     let refusal = carry_refusal(sender, receiver, faulty, a, b, k);
     if refusal != 0 {
-        return Moved { refusal, net };
+        return Reached {
+            refusal,
+            node: receiver,
+        };
     }
     let told = hear_frame(receiver, link_to(b, a), broadcast(sender, k));
+    if told.refusal != 0 {
+        return Reached {
+            refusal: 0,
+            node: receiver,
+        };
+    }
     let node = told.node;
-    reach(
-        net,
-        b,
-        Told {
-            refusal: told.refusal,
-            node: mark(node, a, k),
-        },
-    )
+    Reached {
+        refusal: 0,
+        node: mark(node, a, k),
+    }
 }
 
 // A burst arrives at b as if from a. A burst that cannot be read changes nothing.
-pub fn forge(net: Net, a: u8, b: u8, burst: &[u8]) -> Moved
-    ensures { λ r. ⌜ r ≡ moved net (Nets.forge a b (now (burst .entry)) outputRoom) ⌝ }
+pub fn forge(receiver: Node, links: Faulty, a: u8, b: u8, burst: &[u8]) -> Reached
+    ensures { λ r. ⌜ r ≡ forgedTo receiver (pairsOf links) a b (now (burst .entry)) ⌝ }
 {
-    let links = net.faulty;
     if is_good(links, a, b) {
-        return Moved { refusal: 18, net };
+        return Reached {
+            refusal: 18,
+            node: receiver,
+        };
     }
-    let receiver = node_at(net, b);
     let base = receiver.base;
     let Reading::Message {
         kind: _,
@@ -105,7 +82,12 @@ pub fn forge(net: Net, a: u8, b: u8, burst: &[u8]) -> Moved
         start: _,
     } = read(base.n as usize, burst)
     else {
-        return Moved { refusal: 0, net };
+        return Reached {
+            refusal: 0,
+            node: receiver,
+        };
     };
-    reach(net, b, hear(receiver, link_to(b, a), burst))
+    let told = hear(receiver, link_to(b, a), burst);
+    let node = told.node;
+    Reached { refusal: 0, node }
 }

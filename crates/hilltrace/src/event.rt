@@ -8,54 +8,55 @@ use crate::walk::show_line;
 use lines::event::Line;
 use lines::event::event_line;
 use net::nodes::node_at;
+use net::nodes::with_node;
 use node::log::broadcast;
 use numbering::link_to;
 use text::hex::hex_bytes;
 
 fn started(s: &[u8], walk: Walk, b: u8, next: usize) -> Walk {
     let net = walk.net;
-    let moved = events::start(net, b);
-    if moved.refusal != 0 {
-        return halt(walk);
-    }
+    let node = node_at(net, b);
     show_line(s, walk, next);
-    call::start_call(b, node_at(net, b));
-    let after = moved.net;
-    onward(walk, after, next)
+    call::start_call(b, node);
+    let told = calls::start(node);
+    if told.refusal != 0 {
+        return onward(walk, net, next);
+    }
+    let after = told.node;
+    onward(walk, with_node(net, b, after), next)
 }
 
 fn carried(s: &[u8], walk: Walk, a: u8, b: u8, k: usize, next: usize) -> Walk {
     let net = walk.net;
-    let moved = events::carry(net, a, b, k);
-    if moved.refusal != 0 {
+    let faulty = net.faulty;
+    let sender = node_at(net, a);
+    let node = node_at(net, b);
+    let reached = events::carry(sender, node, faulty, a, b, k);
+    if reached.refusal != 0 {
         return halt(walk);
     }
     show_line(s, walk, next);
-    let frame = broadcast(node_at(net, a), k);
+    let frame = broadcast(sender, k);
     let bytes = frame.bytes;
-    call::arrival_call(
-        b,
-        node_at(net, b),
-        a,
-        link_to(b, a),
-        part(&bytes, 0, frame.len),
-    );
-    let after = moved.net;
-    onward(walk, after, next)
+    call::arrival_call(b, node, a, link_to(b, a), part(&bytes, 0, frame.len));
+    let after = reached.node;
+    onward(walk, with_node(net, b, after), next)
 }
 
 // A forgery whose bytes stand in the schedule.
 fn forged(s: &[u8], walk: Walk, a: u8, b: u8, at: usize, count: usize, next: usize) -> Walk {
     let net = walk.net;
+    let faulty = net.faulty;
+    let node = node_at(net, b);
     let bytes = hex_bytes(s, at, count);
-    let moved = events::forge(net, a, b, part(&bytes, 0, count));
-    if moved.refusal != 0 {
+    let reached = events::forge(node, faulty, a, b, part(&bytes, 0, count));
+    if reached.refusal != 0 {
         return halt(walk);
     }
     show_line(s, walk, next);
-    call::arrival_call(b, node_at(net, b), a, link_to(b, a), part(&bytes, 0, count));
-    let after = moved.net;
-    onward(walk, after, next)
+    call::arrival_call(b, node, a, link_to(b, a), part(&bytes, 0, count));
+    let after = reached.node;
+    onward(walk, with_node(net, b, after), next)
 }
 
 fn step(s: &[u8], walk: Walk) -> Walk {

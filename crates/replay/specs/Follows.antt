@@ -297,6 +297,9 @@ few-bases s e =
     let w : Stories.wholeStory s .refusal ≡ 0 = ap (λ (st : Story). st .refusal) (sym m) ∙ e in
     subst (λ (st : Story). st .n ≤ mostBases) (sym m) (subst (λ (n : ℕ). n ≤ mostBases) (sym (story-tells s w .n)) (header-begins s (header-unrefused s w) .size .most))
 
+pub header-few : (s : List ℕ) → headerPlay s .refusal ≡ 0 → headerPlay s .net .n ≤ mostBases
+header-few s e = let F = header-follows s in omega (arith, F .net .record-n, header-begins s (sym (F .refusal) ∙ e) .size .most)
+
 pub play-few : (s : List ℕ) → wholePlay s .refusal ≡ 0 → wholePlay s .net .n ≤ mostBases
 play-few s e = let F = whole-follows s in omega (arith, F .net .record-n, few-bases s (sym (F .refusal) ∙ e))
 

@@ -14,7 +14,7 @@ use Rattle.protocol.specs.Net.{good, Event, starts, carry, forge, waiting}
 use Rattle.net.specs.declared.Net.{Net}
 use Rattle.net.specs.Shown.{shown, faultyOf, size}
 use Rattle.net.specs.Header.{madeNet, namedNet, idRefusal, withFaulty, faultyRefusal}
-use Rattle.events.specs.declared.Moved.{Moved}
+use Rattle.events.specs.Events.{Moved}
 use Rattle.events.specs.Events.{moved}
 use Rattle.schedule.specs.Header.{sizeRefusal}
 use Rattle.schedule.specs.Report.{baseLines, waitingLine, refusedLine}

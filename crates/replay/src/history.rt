@@ -1,55 +1,67 @@
 // The lines of events.
 use crate::play::Play;
-use events::Moved;
+use events::Reached;
+use limits::MOST_BASES;
 use lines::event::Line;
 use lines::event::event_line;
-use net::Net;
+use net::Faulty;
+use node::Node;
 use text::hex::hex_bytes;
 ghost use mathlib.Core.Path.{_≡_};
-ghost use Prim.Native.Nat.{_≤_, _*_};
+ghost use Prim.Native.Nat.{_≤_, _<_, _*_};
 ghost use lib.ListN.{length, drop};
-ghost use Rattle.limits.specs.Limits.{longestBurst, outputRoom};
+ghost use Rattle.limits.specs.Limits.{mostBases, longestBurst};
 ghost use Rattle.text.specs.Hex.{hexBytes};
-ghost use Rattle.protocol.specs.Net as Nets;
-ghost use Rattle.events.specs.Events.{moved};
-ghost use Rattle.replay.specs.Play.{
-  HasBytes,
-  happened,
-  nextOf,
-  nextPlay,
-  repeatPlay,
-};
+ghost use Rattle.net.specs.Shown.{pairsOf};
+ghost use Rattle.events.specs.Events.{forgedTo};
+ghost use Rattle.replay.specs.Play.{HasBytes, nextOf, nextPlay, repeatPlay};
+ghost use Rattle.replay.specs.Turn.{senderOf, receiverOf, placeOf, reachedBy};
 
 // A forgery whose bytes stand in the schedule.
-fn forge_bytes(s: &[u8], net: Net, a: u8, b: u8, at: usize, count: usize) -> Moved
+fn forge_bytes(
+    s: &[u8],
+    receiver: Node,
+    faulty: Faulty,
+    a: u8,
+    b: u8,
+    at: usize,
+    count: usize,
+) -> Reached
     requires { ⌜ (count ≤ longestBurst) × (2 * count ≤ length (drop at (now s))) ⌝ }
-    ensures { λ r. ⌜ r ≡ moved net (Nets.forge a b (hexBytes count (drop at (now (s .entry)))) outputRoom) ⌝ }
+    ensures { λ r. ⌜ r ≡ forgedTo receiver (pairsOf faulty) a b (hexBytes count (drop at (now (s .entry)))) ⌝ }
 {
     let bytes = hex_bytes(s, at, count);
-    events::forge(net, a, b, &bytes[..count])
+    events::forge(receiver, faulty, a, b, &bytes[..count])
 }
 
-// What a line does to the net, beside the number by which the line is turned down.
-fn happen(s: &[u8], net: Net, line: Line) -> Moved
+// What a line does to the base that it reaches, beside the number by which the line is turned down.
+fn happen(s: &[u8], sender: Node, receiver: Node, faulty: Faulty, line: Line) -> Reached
     requires { ⌜ HasBytes (now s) line ⌝ }
-    ensures { λ r. ⌜ r ≡ happened (now (s .entry)) net line ⌝ }
+    ensures { λ r. ⌜ r ≡ reachedBy (now (s .entry)) sender receiver (pairsOf faulty) line ⌝ }
 {
     match line {
-        Line::Start { base, next: _ } => events::start(net, base),
+        Line::Start { base: _, next: _ } => {
+            let told = calls::start(receiver);
+            let node = told.node;
+            Reached { refusal: 0, node }
+        }
         Line::Carry {
             from,
             to,
             number,
             next: _,
-        } => events::carry(net, from, to, number as usize),
+        } => events::carry(sender, receiver, faulty, from, to, number as usize),
         Line::Forge {
             from,
             to,
             at,
             count,
             next: _,
-        } => forge_bytes(s, net, from, to, at, count),
-        Line::Wrong => Moved { refusal: 13, net },
+        } => forge_bytes(s, receiver, faulty, from, to, at, count),
+        Line::Wrong => Reached {
+            refusal: 13,
+            node: receiver,
+        },
     }
 }
 
@@ -76,9 +88,69 @@ fn next_of(line: Line) -> usize
     }
 }
 
-// Every line, up to the text's end or the first that is turned down. The net is kept apart from the rest, so that a line copies it seldom.
+// Where base b stands in the net.
+fn place_of(b: u8) -> usize
+    ensures { λ r. ⌜ (r ≡ placeOf b) × (r < mostBases) ⌝ }
+{
+    let number = b as usize;
+    if number < 1 {
+        return 0;
+    }
+    if MOST_BASES < number {
+        return 0;
+    }
+    number - 1
+}
+
+// Where the base stands that sends.
+fn sender_place(line: Line) -> usize
+    ensures { λ r. ⌜ (r ≡ placeOf (senderOf line)) × (r < mostBases) ⌝ }
+{
+    match line {
+        Line::Start { base, next: _ } => place_of(base),
+        Line::Carry {
+            from,
+            to: _,
+            number: _,
+            next: _,
+        } => place_of(from),
+        Line::Forge {
+            from,
+            to: _,
+            at: _,
+            count: _,
+            next: _,
+        } => place_of(from),
+        Line::Wrong => place_of(0),
+    }
+}
+
+// Where the base stands that is reached.
+fn receiver_place(line: Line) -> usize
+    ensures { λ r. ⌜ (r ≡ placeOf (receiverOf line)) × (r < mostBases) ⌝ }
+{
+    match line {
+        Line::Start { base, next: _ } => place_of(base),
+        Line::Carry {
+            from: _,
+            to,
+            number: _,
+            next: _,
+        } => place_of(to),
+        Line::Forge {
+            from: _,
+            to,
+            at: _,
+            count: _,
+            next: _,
+        } => place_of(to),
+        Line::Wrong => place_of(0),
+    }
+}
+
+// Every line, up to the text's end or the first that is turned down. A line changes one base in its place, so that the net is not copied.
 pub(crate) fn play_history(s: &[u8], first: Play) -> Play
-    requires { ⌜ first .line ≤ 600 ⌝ }
+    requires { ⌜ (first .line ≤ 600) × (first .refusal ≡ 0 → first .net .n ≤ mostBases) ⌝ }
     ensures { λ r. ⌜ r ≡ repeatPlay (length (now (s .entry))) (nextPlay (now (s .entry))) first ⌝ }
 {
     if first.refusal != 0 {
@@ -98,8 +170,13 @@ pub(crate) fn play_history(s: &[u8], first: Play) -> Play
             };
         }
         let line = event_line(net.n, s, at);
-        let moved = happen(s, net, line);
-        let refusal = moved.refusal;
+        let from = sender_place(line);
+        let to = receiver_place(line);
+        let sender = net.nodes[from];
+        let receiver = net.nodes[to];
+        let faulty = net.faulty;
+        let reached = happen(s, sender, receiver, faulty, line);
+        let refusal = reached.refusal;
         if refusal != 0 {
             return Play {
                 net,
@@ -108,8 +185,8 @@ pub(crate) fn play_history(s: &[u8], first: Play) -> Play
                 refusal,
             };
         }
-        let after = moved.net;
-        net = after;
+        let node = reached.node;
+        net.nodes[to] = node;
         at = next_of(line);
         number += 1;
         k += 1;

@@ -98,7 +98,7 @@ three-joined v b (a ∷ (c ∷ (d ∷ []))) out h =
 three-joined v b (a ∷ (c ∷ (d ∷ (e ∷ says)))) out h = absurd (omega arith)
 
 -- ---- a call
-after-unchanged : (v : Node) (d : Done) → Unchanged (v .base) d → after v d ≡ v
+pub after-unchanged : (v : Node) (d : Done) → Unchanged (v .base) d → after v d ≡ v
 unfolding after joinedAll withBase
 after-unchanged v d U = rw (U .says, U .base)
 

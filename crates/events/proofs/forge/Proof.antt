@@ -1,7 +1,6 @@
--- `events::forge` meets its contract: turned down, a burst that cannot be read, or the call with the burst.
-use Rattle.events.specs.Events.Laws.{forge-refused, forge-unread, forge-moved}
+-- `events::forge` meets its contract: turned down by 18, a burst that cannot be read, or the call with the burst.
+use Rattle.events.specs.Events.Laws.{forge-refused, forge-unread, forge-heard}
 use mathlib.Core.Path.{sym, _∙_}
-use Rattle.net.specs.Shown.{faultyOf}
 use borrow.Author.Needs.{needs}
 use Rattle.events.proofs.forge.Statement.{statement}
 use Rattle.events.proofs.forge.Tie as tie
@@ -10,11 +9,7 @@ is-good-requires : tie.Need-is-good-requires
 is-good-requires c κs = search needs
 
 returns : tie.Need-returns
-unfolding faultyOf
-returns c = forge-refused _ _ _ _ (c .before .is-good .ensures) (c .if1 .taken)
-
-node-at-requires : tie.Need-node-at-requires
-node-at-requires c κs = search needs
+returns c = forge-refused _ _ _ _ _ (c .before .is-good .ensures) (c .if1 .taken)
 
 cast-read : tie.Need-cast-read
 cast-read c = search needs
@@ -29,8 +24,7 @@ enum-told-2 : tie.Need-enum-told-2
 enum-told-2 c = search needs
 
 returns-2 : tie.Need-returns-2
-unfolding faultyOf
-returns-2 c = forge-unread _ _ _ _ (c .before .before .before .before .before .before .before .is-good .ensures) (c .before .before .before .before .before .before .if1 .left) (c .before .before .before .before .before .node-at .ensures) (sym (c .before .before .read .ensures) ∙ c .enum-told2 .given .1)
+returns-2 c = forge-unread _ _ _ _ _ (c .before .before .before .before .before .before .is-good .ensures) (c .before .before .before .before .before .if1 .left) (sym (c .before .before .read .ensures) ∙ c .enum-told2 .given .1)
 
 link-to-requires : tie.Need-link-to-requires
 link-to-requires c κs = search needs
@@ -38,12 +32,8 @@ link-to-requires c κs = search needs
 hear-requires : tie.Need-hear-requires
 hear-requires c κs = search needs
 
-reach-requires : tie.Need-reach-requires
-reach-requires c κs = search needs
-
 returns-3 : tie.Need-returns-3
-unfolding faultyOf
-returns-3 c = forge-moved _ _ _ _ (c .before .before .before .before .before .before .before .before .before .before .is-good .ensures) (c .before .before .before .before .before .before .before .before .before .if1 .left) (c .before .before .before .before .before .before .before .before .node-at .ensures) (c .before .before .link-to .ensures) (c .before .hear .ensures) (c .reach .ensures)
+returns-3 c = forge-heard _ _ _ _ _ (c .before .before .before .before .before .before .before .before .before .is-good .ensures) (c .before .before .before .before .before .before .before .before .if1 .left) (c .before .before .link-to .ensures) (c .before .hear .ensures)
 
 pub forge-spec : {M : Type 1} → statement M
 forge-spec =
@@ -51,7 +41,6 @@ forge-spec =
     (tie.spec
     is-good-requires
     returns
-    node-at-requires
     cast-read
     read-requires
     enum-told
@@ -59,5 +48,4 @@ forge-spec =
     returns-2
     link-to-requires
     hear-requires
-    reach-requires
     returns-3)

@@ -1,17 +1,17 @@
--- An event in its parts: turned down by 16 to 18, turned down by the base's call, or reaching the base.
-use Prim.Native.Nat.{ℕ, _-_, _<_, _≤_}
-use mathlib.Core.Path.{_≡_, refl, sym, ap, _∙_}
+-- An event in its parts: turned down by 16 to 18, turned down by the base's call, or reaching the base; and that storing the base that it reached gives the
+-- net after the event.
+use Prim.Native.Nat.{ℕ, zero, suc, _-_, _<_, _≤_}
+use mathlib.Core.Path.{_≡_, refl, sym, ap, ap₂, _∙_}
 use mathlib.Core.Logic.{_≢_}
 use mathlib.Core.Bool.{Bool, true, false}
-use mathlib.Core.List.{List}
-use native.Mathlib.Omega.{arith}
-use borrow.Author.Tests.{eq-eqb, ne-eqb, lt-ltb, le-ltb}
-use lib.ListN.{length}
+use mathlib.Core.List.{List, [], _∷_}
+use borrow.Author.Tests.{eq-eqb, ne-eqb, eqb-false, lt-ltb, le-ltb}
+use lib.ListN.{length, getD, set}
 use lib.Dec.{eqb, ltb}
-use Rattle.limits.specs.Limits.{outputRoom}
+use Rattle.limits.specs.Limits.{mostBases, outputRoom}
 use Rattle.limits.specs.Refusals.{netRefusal}
-use Rattle.lists.specs.Choice.{and, or}
-use Rattle.lists.specs.Choice.Laws.{choose-no, chosen-yes, chosen-no, and-both, and-no, and-fails, or-first, or-second, or-neither, first-none, first-given, first-passed}
+use Rattle.lists.specs.Choice.{choose, and, or, first}
+use Rattle.lists.specs.Choice.Laws.{chosen-yes, chosen-no, and-both, and-no, and-fails, or-first, or-second, or-neither, first-none, first-given, first-passed}
 use Rattle.frame.specs.Reading.{burstRefusal, readRefusal}
 use Rattle.reader.specs.declared.Reading.the-variants.{Refused}
 use Rattle.reader.specs.Answers.{readingOf}
@@ -19,54 +19,32 @@ use Rattle.reader.specs.Answers.Laws.{reading-refused}
 use Rattle.protocol.specs.declared.Base.{Base}
 use Rattle.protocol.specs.Numbering.{linkTo}
 use Rattle.protocol.specs.Sound.{settingRefusal, recordRefusal}
-use Rattle.protocol.specs.Steps.{start, arrival, arrivalRefusal}
-use Rattle.protocol.specs.Steps.Answers.{arrival-number}
+use Rattle.protocol.specs.Steps.{Done, start, arrival, arrivalRefusal}
+use Rattle.protocol.specs.Steps.Answers.{arrival-number, start-refused, arrival-refused}
 use Rattle.protocol.specs.Net.{Event, starts, carry, forge, at, good, broadcast, call, callRefusal, eventRefusal, refusal}
 use Rattle.protocol.specs.Net as Nets
 use Rattle.node.specs.declared.Frame.{Frame}
 use Rattle.node.specs.declared.Node.{Node}
 use Rattle.calls.specs.declared.Told.{Told}
-use Rattle.node.specs.Node.{logOf, frameAt, written, heardBy, marked}
+use Rattle.node.specs.Node.{within, logOf, frameAt, written, heardBy, marked}
 use Rattle.calls.specs.Calls.{told}
+use Rattle.calls.specs.Calls.Laws.{after-unchanged}
 use Rattle.node.specs.Node as Nodes
 use Rattle.node.specs.Node.Log.{frame-written}
 use Rattle.net.specs.declared.Net.{Net}
-use Rattle.net.specs.Shown.{nodeAt, withNode, shown, faultyOf}
-use Rattle.events.specs.declared.Moved.{Moved}
-use Rattle.events.specs.Events.{marks, after, moved, carryRefusal, reached}
+use Rattle.net.specs.Shown.{noNode, emptyNode, nodeAt, withNode, shown, faultyOf}
+use Rattle.events.specs.declared.Reached.{Reached}
+use Rattle.events.specs.Events.{marks, after, carryRefusal, carryCall, carriedTo, forgedTo}
 
--- ---- the parts
-module _ (w : Net) (e : Event) where
-  abbrev number : ℕ
-  number = eventRefusal (faultyOf w) (shown w) e
+-- ---- a call that is turned down
+module _ (u : Node) where
+  start-down : callRefusal (start (u .base) outputRoom .answer) ≢ 0 → Nodes.after u (start (u .base) outputRoom) ≡ u
+  start-down n = after-unchanged u _ (start-refused (u .base) outputRoom n)
 
-  abbrev answer : ℕ
-  answer = callRefusal (call (shown w) e .answer)
-
-  pub turned-down : {r : ℕ} → r ≢ 0 → r ≡ number → record { refusal = r; net = w } ≡ moved w e
-  unfolding moved after refusal
-  turned-down {r} some is =
-      let n : number ≢ 0 = λ z. some (is ∙ z) in
-      rw is (ap (λ (x : Net). record { refusal = number; net = x }) (chosen-no _ (ne-eqb _ 0 (λ z. n (sym (first-given answer n) ∙ z))) refl))
-
-  pub call-refused : number ≡ 0 → answer ≢ 0 → record { refusal = 0; net = w } ≡ moved w e
-  unfolding moved after refusal
-  call-refused none down = rw none (ap (λ (x : Net). record { refusal = 0; net = x }) (chosen-no _ (ne-eqb _ 0 (λ z. down (sym (first-none answer refl) ∙ z))) refl))
-
-  pub call-reached : number ≡ 0 → reached w (at e) (record { refusal = answer; node = marks e (Nodes.after (nodeAt w (at e)) (call (shown w) e)) }) ≡ moved w e
-  unfolding moved after refusal reached
-  call-reached none = rw (none, first-none answer refl)
-
--- ---- a start
-pub start-moved : (w : Net) (b : ℕ) {v : Node} {t : Told} {r : Moved} → v ≡ nodeAt w b → t ≡ told v (start (v .base) outputRoom) → r ≡ reached w b t → r ≡ moved w (starts b outputRoom)
-unfolding told at call eventRefusal marks shown
-start-moved w b ev et er = er ∙ rw (et, ev) (call-reached w (starts b outputRoom) refl)
+  arrival-down : (link : ℕ) (bytes : List ℕ) → callRefusal (arrival (u .base) link bytes outputRoom .answer) ≢ 0 → Nodes.after u (arrival (u .base) link bytes outputRoom) ≡ u
+  arrival-down link bytes n = after-unchanged u _ (arrival-refused (u .base) link bytes outputRoom n)
 
 -- ---- a carry: numbers 16 and 17
-pub carry-number : (w : Net) (a b k : ℕ) → carryRefusal (nodeAt w a) (nodeAt w b) (faultyOf w) a b k ≡ eventRefusal (faultyOf w) (shown w) (carry a b k outputRoom)
-unfolding carryRefusal eventRefusal shown
-carry-number w a b k = refl
-
 module _ (v u : Node) (faulty : List Nets.Pair) (a b k : ℕ) where
   pub not-numbered : k ≡ 0 → 16 ≡ carryRefusal v u faulty a b k
   unfolding carryRefusal
@@ -93,54 +71,114 @@ module _ (v u : Node) (faulty : List Nets.Pair) (a b k : ℕ) where
     on-a-faulty-link eg g = chosen-no _ there (chosen-no _ (sym (and-fails _ (sym eg ∙ g))) refl)
 
 -- ---- a carry
-module _ (w : Net) (a b k : ℕ) {v u : Node} (ev : v ≡ nodeAt w a) (eu : u ≡ nodeAt w b) {n : ℕ} (en : n ≡ carryRefusal v u (faultyOf w) a b k) where
-  its-number : n ≡ eventRefusal (faultyOf w) (shown w) (carry a b k outputRoom)
-  its-number = en ∙ rw (ev, eu) (carry-number w a b k)
+module _ (v u : Node) (faulty : List Nets.Pair) (a b k : ℕ) {n : ℕ} (en : n ≡ carryRefusal v u faulty a b k) where
+  pub carry-refused : n ≢ 0 → record { refusal = n; node = u } ≡ carriedTo v u faulty a b k
+  unfolding carriedTo
+  carry-refused some =
+      let r = callRefusal (carryCall v u a b k .answer) in
+      ap₂ (λ (m : ℕ) (x : Node). record { refusal = m; node = x }) en
+      (chosen-no (marked (Nodes.after u (carryCall v u a b k)) a k) (ne-eqb (first (carryRefusal v u faulty a b k) r) 0 (λ z. some (en ∙ sym (first-given r (λ y. some (en ∙ y))) ∙ z))) refl)
 
-  pub carry-refused : n ≢ 0 → record { refusal = n; net = w } ≡ moved w (carry a b k outputRoom)
-  carry-refused some = turned-down w (carry a b k outputRoom) some its-number
+  module _ (none : n ≡ 0) {link : ℕ} (el : link ≡ linkTo b a) {f : Frame} (ef : f ≡ frameAt v k) {t : Told} (et : t ≡ told u (arrival (u .base) link (written f) outputRoom)) where
+    is-call : arrival (u .base) link (written f) outputRoom ≡ carryCall v u a b k
+    unfolding carryCall
+    is-call = rw (el, ef) (ap (λ (bytes : List ℕ). arrival (u .base) (linkTo b a) bytes outputRoom) (frame-written v k))
 
-  pub carry-moved : n ≡ 0 → {link : ℕ} → link ≡ linkTo b a → {f : Frame} → f ≡ frameAt v k → {t : Told} → t ≡ told u (arrival (u .base) link (written f) outputRoom)
-      → {m : Node} → m ≡ marked (t .node) a k → {r : Moved} → r ≡ reached w b (record { refusal = t .refusal; node = m }) → r ≡ moved w (carry a b k outputRoom)
-  unfolding told at call broadcast marks shown
-  carry-moved none el ef et em er =
-      er ∙ rw (em, et, el, ef, frame-written v k, ev, eu) (call-reached w (carry a b k outputRoom) (sym its-number ∙ none))
+    its-number : t .refusal ≡ callRefusal (carryCall v u a b k .answer)
+    unfolding told
+    its-number = ap (λ (x : Told). x .refusal) et ∙ ap (λ (d : Done). callRefusal (d .answer)) is-call
+
+    zero-first : first (carryRefusal v u faulty a b k) (callRefusal (carryCall v u a b k .answer)) ≡ t .refusal
+    zero-first = first-none _ (sym en ∙ none) ∙ sym its-number
+
+    pub carry-unheard : t .refusal ≢ 0 → record { refusal = 0; node = u } ≡ carriedTo v u faulty a b k
+    unfolding carriedTo
+    carry-unheard some = ap₂ (λ (r : ℕ) (x : Node). record { refusal = r; node = x }) (sym (sym en ∙ none)) (chosen-no _ (ne-eqb _ 0 (λ z. some (sym zero-first ∙ z))) refl)
+
+    pub carry-heard : t .refusal ≡ 0 → {m : Node} → m ≡ marked (t .node) a k → record { refusal = 0; node = m } ≡ carriedTo v u faulty a b k
+    unfolding carriedTo
+    carry-heard none-too {m} em = ap₂ (λ (r : ℕ) (x : Node). record { refusal = r; node = x }) (sym (sym en ∙ none)) (chosen-yes _ (eq-eqb _ 0 (zero-first ∙ none-too)) (em ∙ ap (λ (x : Node). marked x a k) node-is))
+      where
+        node-is : t .node ≡ Nodes.after u (carryCall v u a b k)
+        node-is = ap (λ (x : Told). x .node) et ∙ (unfold told in ap (Nodes.after u) is-call)
 
 -- ---- a forgery
-module _ (w : Net) (a b : ℕ) (bytes : List ℕ) {g : Bool} (eg : g ≡ good (faultyOf w) a b) where
-  pub forge-refused : g ≡ true → record { refusal = 18; net = w } ≡ moved w (forge a b bytes outputRoom)
-  unfolding eventRefusal
-  forge-refused t = turned-down w (forge a b bytes outputRoom) (λ z. absurd (omega arith)) (chosen-yes _ (sym eg ∙ t) refl)
+module _ (u : Node) (faulty : List Nets.Pair) (a b : ℕ) (bytes : List ℕ) {g : Bool} (eg : g ≡ good faulty a b) where
+  pub forge-refused : g ≡ true → record { refusal = 18; node = u } ≡ forgedTo u faulty a b bytes
+  unfolding forgedTo
+  forge-refused t = chosen-yes _ (sym eg ∙ t) refl
 
-  module _ (f : g ≡ false) {u : Node} (eu : u ≡ nodeAt w b) where
-    no-number : eventRefusal (faultyOf w) (shown w) (forge a b bytes outputRoom) ≡ 0
-    unfolding eventRefusal
-    no-number = choose-no _ _ (sym eg ∙ f)
+  -- "refusals of its burst leave the schedule running"
+  unread : (c : Base) (link r : ℕ) → readingOf (c .n) bytes ≡ Refused r → callRefusal (arrival c link bytes outputRoom .answer) ≢ 0
+  unfolding arrivalRefusal recordRefusal settingRefusal readRefusal
+  unread c link r e z =
+      let q = reading-refused (c .n) bytes r e in
+      let p = first-passed _ _ (sym (arrival-number c link bytes outputRoom) ∙ z) in
+      let net : netRefusal (c .n) ≡ 0 = first-passed _ _ (first-passed _ _ (p .0) .0) .0 in
+      let burst : burstRefusal (c .n) bytes ≡ 0 = first-passed _ _ (first-passed _ _ (p .1) .1) .1 in
+      q .1 (sym (q .0) ∙ (first-none (burstRefusal (c .n) bytes) net ∙ burst))
 
-    -- "refusals of its burst leave the schedule running"
-    unread : (c : Base) (link r : ℕ) → readingOf (c .n) bytes ≡ Refused r → callRefusal (arrival c link bytes outputRoom .answer) ≢ 0
-    unfolding arrivalRefusal recordRefusal settingRefusal readRefusal
-    unread c link r e z =
-        let q = reading-refused (c .n) bytes r e in
-        let p = first-passed _ _ (sym (arrival-number c link bytes outputRoom) ∙ z) in
-        let net : netRefusal (c .n) ≡ 0 = first-passed _ _ (first-passed _ _ (p .0) .0) .0 in
-        let burst : burstRefusal (c .n) bytes ≡ 0 = first-passed _ _ (first-passed _ _ (p .1) .1) .1 in
-        q .1 (sym (q .0) ∙ (first-none (burstRefusal (c .n) bytes) net ∙ burst))
+  pub forge-unread : g ≡ false → {r : ℕ} → readingOf (u .base .n) bytes ≡ Refused r → record { refusal = 0; node = u } ≡ forgedTo u faulty a b bytes
+  unfolding forgedTo
+  forge-unread f {r} e = chosen-no _ (sym eg ∙ f) (ap (λ (x : Node). record { refusal = 0; node = x }) (sym (arrival-down u (linkTo b a) bytes (unread (u .base) (linkTo b a) r e))))
 
-    pub forge-unread : {r : ℕ} → readingOf (u .base .n) bytes ≡ Refused r → record { refusal = 0; net = w } ≡ moved w (forge a b bytes outputRoom)
-    unfolding call shown
-    forge-unread {r} e = call-refused w (forge a b bytes outputRoom) no-number (unread (nodeAt w b .base) (linkTo b a) r (ap (λ (x : Node). readingOf (x .base .n) bytes) (sym eu) ∙ e))
+  pub forge-heard : g ≡ false → {link : ℕ} → link ≡ linkTo b a → {t : Told} → t ≡ told u (arrival (u .base) link bytes outputRoom) → record { refusal = 0; node = t .node } ≡ forgedTo u faulty a b bytes
+  unfolding forgedTo told
+  forge-heard f el et = chosen-no _ (sym eg ∙ f) (rw (et, el))
 
-    pub forge-moved : {link : ℕ} → link ≡ linkTo b a → {t : Told} → t ≡ told u (arrival (u .base) link bytes outputRoom) → {r : Moved} → r ≡ reached w b t → r ≡ moved w (forge a b bytes outputRoom)
-    unfolding told at call marks shown
-    forge-moved el et er = er ∙ rw (et, el, eu) (call-reached w (forge a b bytes outputRoom) no-number)
+-- ---- what they do to the net
+-- storing what is there changes nothing
+pub set-self : {A : Type 0} (l : List A) (i : ℕ) (d : A) → set l i (getD l i d) ≡ l
+set-self [] i d = refl
+set-self (x ∷ l) zero d = refl
+set-self (x ∷ l) (suc i) d = ap (λ (k : List _). x ∷ k) (set-self l i d)
 
--- ---- reaching a base
-module _ (w : Net) (b : ℕ) (t : Told) where
-  pub not-reached : t .refusal ≢ 0 → record { refusal = 0; net = w } ≡ reached w b t
-  unfolding reached
-  not-reached some = ap (λ (x : Net). record { refusal = 0; net = x }) (chosen-no _ (ne-eqb (t .refusal) 0 some) refl)
+stored-self : (w : Net) (b : ℕ) → withNode w b (nodeAt w b) ≡ w
+unfolding withNode nodeAt
+stored-self w b = go (within b mostBases)
+  where
+    go : (t : Bool) → choose t (record { n = w .n; t = w .t; faulty = w .faulty; nodes = set (w .nodes) (b - 1) (choose t (getD (w .nodes) (b - 1) noNode) (emptyNode (w .n) (w .t))) }) w ≡ w
+    go true = unfold choose in ap (λ (l : List Node). record { n = w .n; t = w .t; faulty = w .faulty; nodes = l }) (set-self (w .nodes) (b - 1) noNode)
+    go false = unfold choose in refl
 
-  pub is-reached : t .refusal ≡ 0 → {x : Net} → x ≡ withNode w b (t .node) → record { refusal = 0; net = x } ≡ reached w b t
-  unfolding reached
-  is-reached none e = ap (λ (x : Net). record { refusal = 0; net = x }) (chosen-yes _ (eq-eqb (t .refusal) 0 none) e)
+-- the base that an event reaches, as the event leaves it
+unfoldable pub reachedNode : Net → Event → Node
+reachedNode w e = choose (eqb (refusal (faultyOf w) (shown w) e) 0) (marks e (Nodes.after (nodeAt w (at e)) (call (shown w) e))) (nodeAt w (at e))
+
+pub reached-stored : (w : Net) (e : Event) → withNode w (at e) (reachedNode w e) ≡ after w e
+unfolding reachedNode after
+reached-stored w e = go (eqb (refusal (faultyOf w) (shown w) e) 0) (marks e (Nodes.after (nodeAt w (at e)) (call (shown w) e)))
+  where
+    go : (t : Bool) (x : Node) → withNode w (at e) (choose t x (nodeAt w (at e))) ≡ choose t (withNode w (at e) x) w
+    go true x = unfold choose in refl
+    go false x = unfold choose in stored-self w (at e)
+
+unless-down : {n : ℕ} {x u : Node} → (n ≢ 0 → x ≡ u) → x ≡ choose (eqb n 0) x u
+unless-down {n} {x} {u} f = go (eqb n 0) refl
+  where
+    go : (t : Bool) → eqb n 0 ≡ t → x ≡ choose t x u
+    go true e = unfold choose in refl
+    go false e = unfold choose in f (eqb-false n 0 e)
+
+pub start-reaches : (w : Net) (b : ℕ) → Nodes.after (nodeAt w b) (start (nodeAt w b .base) outputRoom) ≡ reachedNode w (starts b outputRoom)
+unfolding reachedNode refusal eventRefusal at call marks shown first choose
+start-reaches w b = unless-down (start-down (nodeAt w b))
+
+pub carry-reaches : (w : Net) (a b k : ℕ) → carriedTo (nodeAt w a) (nodeAt w b) (faultyOf w) a b k ≡ record { refusal = eventRefusal (faultyOf w) (shown w) (carry a b k outputRoom); node = reachedNode w (carry a b k outputRoom) }
+unfolding reachedNode refusal eventRefusal at call marks shown carriedTo carryRefusal carryCall broadcast
+carry-reaches w a b k = refl
+
+pub forge-reaches : (w : Net) (a b : ℕ) (bytes : List ℕ) → forgedTo (nodeAt w b) (faultyOf w) a b bytes ≡ record { refusal = eventRefusal (faultyOf w) (shown w) (forge a b bytes outputRoom); node = reachedNode w (forge a b bytes outputRoom) }
+unfolding reachedNode refusal eventRefusal at call marks shown forgedTo
+forge-reaches w a b bytes = go (good (faultyOf w) a b)
+  where
+    u : Node
+    u = nodeAt w b
+
+    d : Done
+    d = arrival (u .base) (linkTo b a) bytes outputRoom
+
+    go : (t : Bool) → _≡_ {A = Reached} (choose t (record { refusal = 18; node = u }) (record { refusal = 0; node = Nodes.after u d }))
+        (record { refusal = choose t 18 0; node = choose (eqb (first (choose t 18 0) (callRefusal (d .answer))) 0) (Nodes.after u d) u })
+    go true = unfold choose first in refl
+    go false = unfold choose first in ap (λ (x : Node). record { refusal = 0; node = x }) (unless-down (arrival-down u (linkTo b a) bytes))

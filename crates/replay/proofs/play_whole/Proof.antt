@@ -1,12 +1,15 @@
 -- `replay::play_whole` meets its contract: the schedule's length, then its header and its events.
 use borrow.Author.Needs.{needs}
-use mathlib.Core.Path.{ap, _∙_}
+use Prim.Native.Nat.{_≤_}
+use mathlib.Core.Path.{_≡_, sym, ap, _∙_, subst}
 use borrow.Author.Tests.{lt-ltb, le-ltb}
 use lib.ListN.{length}
 use denote.Ref.{now}
+use Rattle.limits.specs.Limits.{mostBases}
 use Rattle.lists.specs.Choice.Laws.{chosen-yes, chosen-no}
 use Rattle.replay.specs.declared.play.Play.{Play}
 use Rattle.replay.specs.Play.{refusedPlay, nextPlay, repeatPlay, wholePlay}
+use Rattle.replay.specs.Follows.{header-few}
 use Rattle.replay.proofs.play_whole.Statement.{statement}
 use Rattle.replay.proofs.play_whole.Tie as tie
 
@@ -24,7 +27,7 @@ play-header-requires : tie.Need-play-header-requires
 play-header-requires c κs = search needs
 
 play-history-requires : tie.Need-play-history-requires
-play-history-requires c κs = c .play-header .ensures .1
+play-history-requires c κs = (c .play-header .ensures .1, subst (λ (p : Play). p .refusal ≡ 0 → p .net .n ≤ mostBases) (sym (c .play-header .ensures .0)) (header-few (now (c .before .before .before .args .schedule))))
 
 returns-2 : tie.Need-returns-2
 unfolding wholePlay

@@ -21,7 +21,7 @@ use Rattle.protocol.specs.Net.{good}
 use Rattle.net.specs.declared.Net.{Net}
 use Rattle.net.specs.Shown.{shown, faultyOf}
 use Rattle.net.specs.Header.{madeNet, namedNet, idRefusal, withFaulty, faultyRefusal}
-use Rattle.events.specs.declared.Moved.{Moved}
+use Rattle.events.specs.Events.{Moved}
 use Rattle.schedule.specs.Header.{sizeRefusal}
 use Rattle.replay.specs.declared.play.Play.{Play}
 use Rattle.replay.specs.Play.{

@@ -7,11 +7,10 @@ use mathlib.Core.List.{List}
 use lib.ListN.{length, take, drop}
 use lib.Seq.{length-take-le}
 use denote.Ref.{now}
-use Rattle.limits.specs.Limits.{outputRoom}
 use Rattle.text.specs.Hex.{hexBytes}
 use Rattle.text.specs.Hex.Laws.{length-array, array-front}
-use Rattle.protocol.specs.Net.{forge}
-use Rattle.events.specs.Events.{moved}
+use Rattle.net.specs.Shown.{pairsOf}
+use Rattle.events.specs.Events.{forgedTo}
 use Rattle.replay.proofs.history.forge_bytes.Statement.{statement}
 use Rattle.replay.proofs.history.forge_bytes.Tie as tie
 
@@ -34,7 +33,7 @@ forge-requires : tie.Need-forge-requires
 forge-requires c κs = search needs
 
 returns : tie.Need-returns
-returns c = c .forge .ensures ∙ ap (λ (l : List ℕ). moved (c .before .before .before .before .args .net) (forge (c .before .before .before .before .args .a) (c .before .before .before .before .args .b) l outputRoom)) (bytes-are (c .before .before))
+returns c = c .forge .ensures ∙ ap (λ (l : List ℕ). forgedTo (c .before .before .before .before .args .receiver) (pairsOf (c .before .before .before .before .args .faulty)) (c .before .before .before .before .args .a) (c .before .before .before .before .args .b) l) (bytes-are (c .before .before))
 
 pub forge-bytes-spec : {M : Type 1} → statement M
 forge-bytes-spec =
