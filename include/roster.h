@@ -1,17 +1,22 @@
 /* A roster agreed by bases over faulty links: one base's engine, its frames, and the replay of a whole net.
  *
- * Link with libroster_c.a (rt staticlib roster_c writes it to target/staticlib/). x86-64, no other library, no heap, no state of its own:
- * a call reads and writes what it is lent and nothing else. Different records may be used by different threads at the same time.
+ * Linking. libroster_c.a is for x86-64; `rt staticlib roster_c` writes it to target/staticlib/. It takes memcpy and memset from the
+ * platform and nothing else: no other library, no heap, no state of its own. Different records may be used by different threads at the
+ * same time.
  *
- * No caller has to test anything first. What is not fit is turned down by its number, and a call that is turned down changes nothing. A pointer
- * has to be valid for the length given with it, and what is lent to one call must not overlap.
+ * What is lent. A call reads and writes what it is lent and nothing else. A pointer has to be valid for the length given with it, and
+ * may be NULL where that length is 0. Records and lists of identifiers are aligned as C aligns them; bytes need no alignment. What is
+ * lent to one call must not overlap.
  *
- *  1  n is not 2 to 16                        7  the burst is shorter than 8 or longer than 132 bytes
- *  2  t is above (n - 2) / 2                  8  the kind is not 1 to 4
- *  3  the own identifier is zero              9  the count is not 1 for kinds 1 and 2, or not n for 3 and 4
- *  4  the record is not sound                10  the back distance is not 4 * count + 4, or exceeds the burst
- *  5  the link number is not 1 to n - 1      11  an identifier in the body is zero
- *  6  the output is shorter than 136 bytes   12  a list is not strictly ascending
+ * What is not fit. No caller has to test anything first: what is not fit is turned down by its number (enum roster_refusal), and a call
+ * that is turned down changes nothing and starts nobody.
+ *
+ * What to do with an answer. The frames of an answer stand one after another at the front of the output. Send each of them on every
+ * link of the base: after a start as after an arrival, where the answer is discarded as where it is accepted, and also after the base
+ * has stopped. (An idle base starts on its first arrival, and the two frames of its start are answered even if that arrival is
+ * discarded.)
+ *
+ * A base has stopped once its state is prime or secondary; only then does it have a final list and a leader.
  */
 #ifndef ROSTER_H
 #define ROSTER_H
@@ -23,25 +28,64 @@
 extern "C" {
 #endif
 
+/* Counts up with every change of a record, a call or a number. roster_version() answers that of the library. */
+#define ROSTER_VERSION 1
+
+/* Sizes. Most follow from the most bases of a net. */
+#define ROSTER_FEWEST_BASES 2
 #define ROSTER_MOST_BASES 16
-#define ROSTER_MOST_LINKS 15
-#define ROSTER_LIST_ROOM 17    /* Verify identifiers that a link has room for */
-#define ROSTER_OUTPUT_ROOM 136 /* bytes to lend to roster_start and roster_arrive */
-#define ROSTER_LONGEST_BURST 132
-#define ROSTER_LONGEST_FRAME 68
+#define ROSTER_MOST_LINKS (ROSTER_MOST_BASES - 1)
+#define ROSTER_LIST_ROOM (ROSTER_MOST_BASES + 1)    /* Verify identifiers that a link has room for */
+#define ROSTER_FRAME_BYTES(count) (4 * (count) + 4) /* of a frame of so many identifiers */
+#define ROSTER_LONGEST_FRAME ROSTER_FRAME_BYTES(ROSTER_MOST_BASES)
+#define ROSTER_OUTPUT_ROOM (2 * ROSTER_LONGEST_FRAME) /* bytes to lend to roster_start and roster_arrive */
+#define ROSTER_SHORTEST_BURST ROSTER_FRAME_BYTES(1)
+#define ROSTER_LONGEST_BURST (ROSTER_LONGEST_FRAME + 64)
 #define ROSTER_LONGEST_SCHEDULE 65536
-#define ROSTER_REPORT_ROOM 3621 /* bytes to lend to roster_replay */
+#define ROSTER_LINE_ROOM (37 + 11 * ROSTER_MOST_BASES)                  /* bytes for any line of a report */
+#define ROSTER_REPORT_ROOM ((ROSTER_MOST_BASES + 1) * ROSTER_LINE_ROOM) /* bytes to lend to roster_replay */
+
+/* The most stack that a call takes, in bytes, with what its answer takes in the caller. tests/figures measures it and holds it to this. */
+#define ROSTER_STACK_IDLE 5000
+#define ROSTER_STACK_START 12000
+#define ROSTER_STACK_ARRIVE 12000
+#define ROSTER_STACK_LEADER 12000
+#define ROSTER_STACK_READ 1000
+#define ROSTER_STACK_WRITE 1000
+#define ROSTER_STACK_REPLAY 200000
 
 enum roster_state { ROSTER_IDLE, ROSTER_RUNNING, ROSTER_PRIME, ROSTER_SECONDARY };
 enum roster_kind { ROSTER_ANNOUNCE = 1, ROSTER_VERIFY, ROSTER_CORRECT_FINAL, ROSTER_VERIFY_FINAL };
+
+/* Why a call is turned down, in checking order. 13 to 18 stand in the report of a schedule alone. */
+enum roster_refusal {
+    ROSTER_REFUSAL_BASES = 1,            /* n is not 2 to 16 */
+    ROSTER_REFUSAL_FAULTY_LIMIT = 2,     /* t is above its limit */
+    ROSTER_REFUSAL_OWN_IDENTIFIER = 3,   /* the own identifier is zero */
+    ROSTER_REFUSAL_RECORD = 4,           /* the record is not sound */
+    ROSTER_REFUSAL_LINK = 5,             /* the link number is not 1 to n - 1 */
+    ROSTER_REFUSAL_OUTPUT = 6,           /* the output is shorter than 136 bytes */
+    ROSTER_REFUSAL_BURST = 7,            /* the burst is shorter than 8 or longer than 132 bytes */
+    ROSTER_REFUSAL_KIND = 8,             /* the kind is not 1 to 4 */
+    ROSTER_REFUSAL_COUNT = 9,            /* the count is not 1 for kinds 1 and 2, or not n for 3 and 4 */
+    ROSTER_REFUSAL_BACK_DISTANCE = 10,   /* the back distance is not 4 x count + 4, or exceeds the burst */
+    ROSTER_REFUSAL_ZERO_IDENTIFIER = 11, /* an identifier in the body is zero */
+    ROSTER_REFUSAL_NOT_ASCENDING = 12,   /* a list is not strictly ascending */
+    ROSTER_REFUSAL_FORM = 13,            /* a schedule exceeds 65,536 bytes, or a line is missing or breaks the form */
+    ROSTER_REFUSAL_SAME_IDENTIFIER = 14, /* two bases have one identifier */
+    ROSTER_REFUSAL_FAULTY_LINKS = 15,    /* more than t links are named faulty */
+    ROSTER_REFUSAL_NOT_BROADCAST = 16,   /* a carry names a message not yet broadcast */
+    ROSTER_REFUSAL_CARRIED_BEFORE = 17,  /* a carry repeats one already made in that direction on a good link */
+    ROSTER_REFUSAL_FORGED_ON_GOOD = 18   /* a forgery is put on a good link */
+};
 
 /* What is held of one link. Places that are not in use are zero. */
 typedef struct roster_link {
     uint32_t announce;                   /* the Announce identifier, or zero */
     uint32_t verifies[ROSTER_LIST_ROOM]; /* the Verify identifiers, in order of acceptance */
     uint32_t list[ROSTER_MOST_BASES];    /* the list of the vector message held */
-    uint8_t verify_count;
-    uint8_t held;                        /* its kind, 3 or 4, or zero for none */
+    uint16_t verify_count;
+    uint16_t held;                       /* its kind, 3 or 4, or zero for none */
 } roster_link;
 
 /* A base's record. Keep it as a call left it; read any field, write none. */
@@ -62,7 +106,7 @@ typedef struct roster_made {
 
 enum roster_outcome { ROSTER_REFUSED, ROSTER_ACCEPTED, ROSTER_DISCARDED };
 
-/* The frames broadcast stand one after another at the front of the output; a length is zero for none. */
+/* The lengths of the frames broadcast, in the order written; zero for none. */
 typedef struct roster_answer {
     uint8_t outcome; /* enum roster_outcome */
     uint8_t refusal; /* or zero */
@@ -96,27 +140,31 @@ typedef struct roster_put {
 /* An idle record. Turned down by 1 to 3. */
 roster_made roster_idle(size_t n, size_t t, uint32_t own);
 
-/* Starts an idle base: Announce and Verify of its own identifier are broadcast. At any other state discarded. Turned down by 1 to 4 and 6.
- * Touches the record and the frames' bytes at the front of the output. */
+/* Starts an idle base: Announce and Verify of its own identifier are broadcast. At any other state discarded. Turned down by 1 to 4 and
+ * 6. Touches the record and the frames' bytes at the front of the output. */
 roster_answer roster_start(roster_base *base, uint8_t *out, size_t out_length);
 
-/* A burst arrives on a link, 1 to n - 1: link k of base b goes to base k if k < b, else to base k + 1. Turned down by 1 to 12.
- * Touches the record and the frames' bytes at the front of the output. Send each frame broadcast on every link. */
+/* A burst arrives on a link, 1 to n - 1: link k of base b goes to base k if k < b, else to base k + 1. An idle base starts first.
+ * Turned down by 1 to 12. Touches the record and the frames' bytes at the front of the output. */
 roster_answer roster_arrive(roster_base *base, size_t link, const uint8_t *burst, size_t burst_length, uint8_t *out, size_t out_length);
 
-/* The leader that a stopped base names. Turned down by 1 to 4. Touches nothing. */
+/* The leader that a stopped base, prime or secondary, names. Turned down by 1 to 4. Touches nothing. */
 roster_named roster_leader(roster_base *base);
 
 /* The message of a burst in a net of n; what stands before the frame is skipped. Turned down by 1 and 7 to 12. */
 roster_taken roster_read(size_t n, const uint8_t *burst, size_t burst_length);
 
-/* The frame of a message in a net of n. Turned down by 1, 6 (the output is shorter than the frame), 8, 9, 11 and 12.
- * Touches the frame's bytes at the front of the output. */
+/* The frame of a message in a net of n. Turned down by 1, 6 (the output is shorter than the frame), 8, 9, 11 and 12. Touches the
+ * frame's bytes at the front of the output. */
 roster_put roster_write(size_t n, uint8_t kind, const uint32_t *ids, size_t id_count, uint8_t *out, size_t out_length);
 
-/* The report of a schedule, as hillreplay prints it; its length. A schedule that is refused has the report "refused N line L". An output with less
- * than ROSTER_REPORT_ROOM bytes is left alone, and the length is 0. Touches the report's bytes at the front of the output. */
+/* The report of a schedule, as hillreplay prints it; its length. A schedule that is refused has the report "refused N line L". An
+ * output with less than ROSTER_REPORT_ROOM bytes is left alone, and the length is 0. Touches the report's bytes at the front of the
+ * output. */
 size_t roster_replay(const uint8_t *schedule, size_t schedule_length, uint8_t *out, size_t out_length);
+
+/* The library's ROSTER_VERSION. */
+uint32_t roster_version(void);
 
 #ifdef __cplusplus
 }

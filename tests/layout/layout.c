@@ -3,6 +3,9 @@
 #include <stdio.h>
 #include <string.h>
 
+#define N ROSTER_MOST_BASES
+#define T ((N - 2) / 2)
+
 static int failures;
 
 static void check(const char *what, unsigned long long found, unsigned long long expected)
@@ -38,59 +41,72 @@ static void guards(const struct guarded *g)
 static roster_answer arrives(roster_base *base, size_t link, uint8_t kind, const uint32_t *ids, size_t count)
 {
     uint8_t frame[ROSTER_LONGEST_FRAME], out[ROSTER_OUTPUT_ROOM];
-    roster_put put = roster_write(16, kind, ids, count, frame, sizeof frame);
+    roster_put put = roster_write(N, kind, ids, count, frame, sizeof frame);
     check("refusal of a frame", put.refusal, 0);
-    check("length of a frame", put.length, 4 * count + 4);
+    check("length of a frame", put.length, ROSTER_FRAME_BYTES(count));
     return roster_arrive(base, link, frame, put.length, out, sizeof out);
 }
 
-/* Record: each field is set by a call to a value that no other field has. */
+/* Each field of the last link is set by a call to a value that no other field has. */
+static void link_fields(roster_base *base, const uint32_t *list)
+{
+    const size_t last = ROSTER_MOST_LINKS;
+    const roster_link *held = &base->links[last - 1];
+    uint32_t announced = 0x0A0B0C0D;
+    arrives(base, last, ROSTER_ANNOUNCE, &announced, 1);
+    check("link.announce", held->announce, announced);
+    for (uint32_t k = 0; k < ROSTER_LIST_ROOM - 1; k++) {
+        uint32_t v = 0x100 + k;
+        check("accepted Verify", arrives(base, last, ROSTER_VERIFY, &v, 1).outcome, ROSTER_ACCEPTED);
+        check("link.verifies", held->verifies[k], v);
+        check("link.verify_count", held->verify_count, k + 1);
+    }
+    arrives(base, last, ROSTER_VERIFY_FINAL, list, N);
+    check("link.held", held->held, ROSTER_VERIFY_FINAL);
+    for (uint32_t k = 0; k < N; k++)
+        check("link.list", held->list[k], list[k]);
+}
+
+/* Votes for the list on links 1 to t + 1, two of them Correct-Finals, stop the base as secondary. */
+static void stops(roster_base *base, const uint32_t *list)
+{
+    roster_answer a = {0};
+    arrives(base, 1, ROSTER_CORRECT_FINAL, list, N);
+    check("sent, before two", base->sent, 0);
+    arrives(base, 2, ROSTER_CORRECT_FINAL, list, N);
+    check("sent, after two", base->sent, 1);
+    for (size_t link = 3; link <= T; link++)
+        a = arrives(base, link, ROSTER_VERIFY_FINAL, list, N);
+    check("answer of a stop", a.first, ROSTER_LONGEST_FRAME);
+    check("state", base->state, ROSTER_SECONDARY);
+    for (uint32_t k = 0; k < N; k++)
+        check("final_list", base->final_list[k], list[k]);
+    roster_named named = roster_leader(base);
+    check("named.outcome", named.outcome, ROSTER_LEADER_NAMED);
+    check("named.leader", named.leader, list[N - 1]);
+}
+
 static void record(void)
 {
     static struct guarded g;
-    uint32_t ids[16];
+    uint32_t list[N];
     uint8_t out[ROSTER_OUTPUT_ROOM];
-    roster_made made = roster_idle(16, 7, 0x01020304);
+    for (uint32_t k = 0; k < N; k++)
+        list[k] = 0x200 + k;
+    roster_made made = roster_idle(N, T, 0x01020304);
     check("made.refusal", made.refusal, 0);
-    check("n", made.base.n, 16);
-    check("t", made.base.t, 7);
+    check("n", made.base.n, N);
+    check("t", made.base.t, T);
     check("own", made.base.own, 0x01020304);
     guard(&g, made.base);
     roster_answer a = roster_start(&g.base, out, sizeof out);
     check("answer.outcome", a.outcome, ROSTER_ACCEPTED);
-    check("answer.first", a.first, 8);
-    check("answer.second", a.second, 8);
+    check("answer.first", a.first, ROSTER_FRAME_BYTES(1));
+    check("answer.second", a.second, ROSTER_FRAME_BYTES(1));
     check("answer.third", a.third, 0);
     check("state", g.base.state, ROSTER_RUNNING);
-    uint32_t announced = 0x0A0B0C0D;
-    arrives(&g.base, 15, ROSTER_ANNOUNCE, &announced, 1);
-    check("links[14].announce", g.base.links[14].announce, announced);
-    for (uint32_t k = 0; k < 16; k++) {
-        uint32_t v = 0x100 + k;
-        a = arrives(&g.base, 15, ROSTER_VERIFY, &v, 1);
-        check("accepted Verify", a.outcome, ROSTER_ACCEPTED);
-        check("links[14].verifies", g.base.links[14].verifies[k], v);
-        check("links[14].verify_count", g.base.links[14].verify_count, k + 1);
-    }
-    for (uint32_t k = 0; k < 16; k++)
-        ids[k] = 0x200 + k;
-    arrives(&g.base, 15, ROSTER_VERIFY_FINAL, ids, 16);
-    check("links[14].held", g.base.links[14].held, 4);
-    for (uint32_t k = 0; k < 16; k++)
-        check("links[14].list", g.base.links[14].list[k], ids[k]);
-    arrives(&g.base, 1, ROSTER_CORRECT_FINAL, ids, 16);
-    check("sent, before two", g.base.sent, 0);
-    arrives(&g.base, 2, ROSTER_CORRECT_FINAL, ids, 16);
-    check("sent, after two", g.base.sent, 1);
-    for (size_t link = 3; link < 8; link++)
-        a = arrives(&g.base, link, ROSTER_VERIFY_FINAL, ids, 16);
-    check("answer of a stop", a.first, 68);
-    check("state", g.base.state, ROSTER_SECONDARY);
-    for (uint32_t k = 0; k < 16; k++)
-        check("final_list", g.base.final_list[k], ids[k]);
-    roster_named named = roster_leader(&g.base);
-    check("named.outcome", named.outcome, ROSTER_LEADER_NAMED);
-    check("named.leader", named.leader, ids[15]);
+    link_fields(&g.base, list);
+    stops(&g.base, list);
     guards(&g);
 }
 
@@ -98,34 +114,62 @@ static void record(void)
 static void answers(void)
 {
     uint8_t frame[ROSTER_LONGEST_FRAME];
-    uint32_t ids[16];
-    for (uint32_t k = 0; k < 16; k++)
+    uint32_t ids[N];
+    for (uint32_t k = 0; k < N; k++)
         ids[k] = 0x300 + k;
-    check("refused made", roster_idle(17, 0, 1).refusal, 1);
-    roster_put put = roster_write(16, ROSTER_CORRECT_FINAL, ids, 16, frame, sizeof frame);
-    roster_taken taken = roster_read(16, frame, put.length);
+    check("refused made", roster_idle(N + 1, 0, 1).refusal, ROSTER_REFUSAL_BASES);
+    roster_put put = roster_write(N, ROSTER_CORRECT_FINAL, ids, N, frame, sizeof frame);
+    roster_taken taken = roster_read(N, frame, put.length);
     check("taken.refusal", taken.refusal, 0);
     check("taken.kind", taken.kind, ROSTER_CORRECT_FINAL);
-    check("taken.count", taken.count, 16);
+    check("taken.count", taken.count, N);
     check("taken.start", taken.start, 0);
-    for (uint32_t k = 0; k < 16; k++)
+    for (uint32_t k = 0; k < N; k++)
         check("taken.ids", taken.ids[k], ids[k]);
-    check("refused read", roster_read(16, frame, 7).refusal, 7);
-    check("refused write", roster_write(16, 5, ids, 16, frame, sizeof frame).refusal, 8);
+    check("refused read", roster_read(N, frame, ROSTER_SHORTEST_BURST - 1).refusal, ROSTER_REFUSAL_BURST);
+    check("refused write", roster_write(N, ROSTER_VERIFY_FINAL + 1, ids, N, frame, sizeof frame).refusal, ROSTER_REFUSAL_KIND);
     roster_base zero = roster_idle(0, 0, 0).base;
     roster_answer a = roster_start(&zero, frame, sizeof frame);
     check("refused answer.outcome", a.outcome, ROSTER_REFUSED);
-    check("refused answer.refusal", a.refusal, 1);
-    check("refused named.refusal", roster_leader(&zero).refusal, 1);
+    check("refused answer.refusal", a.refusal, ROSTER_REFUSAL_BASES);
+    check("refused named.refusal", roster_leader(&zero).refusal, ROSTER_REFUSAL_BASES);
+}
+
+/* NULL may stand where the length is 0. */
+static void nothing_lent(void)
+{
+    uint8_t out[ROSTER_OUTPUT_ROOM], report[ROSTER_REPORT_ROOM];
+    roster_base base = roster_idle(N, T, 1).base;
+    check("no burst read", roster_read(N, NULL, 0).refusal, ROSTER_REFUSAL_BURST);
+    check("no burst arrives", roster_arrive(&base, 1, NULL, 0, out, sizeof out).refusal, ROSTER_REFUSAL_BURST);
+    check("no output of a start", roster_start(&base, NULL, 0).refusal, ROSTER_REFUSAL_OUTPUT);
+    check("no identifiers written", roster_write(N, ROSTER_VERIFY, NULL, 0, out, sizeof out).refusal, ROSTER_REFUSAL_COUNT);
+    check("no output written", roster_write(N, ROSTER_VERIFY, &base.own, 1, NULL, 0).refusal, ROSTER_REFUSAL_OUTPUT);
+    check("no report's room", roster_replay(NULL, 0, NULL, 0), 0);
+    check("no schedule", roster_replay(NULL, 0, report, sizeof report), strlen("refused 13 line 1\n"));
+}
+
+/* Every byte of a record that is lent belongs to a field: the fields' sizes add up to the record's. */
+static void fields(void)
+{
+    roster_link link;
+    roster_base base;
+    size_t of_link = sizeof link.announce + sizeof link.verifies + sizeof link.list + sizeof link.verify_count + sizeof link.held;
+    size_t of_base = sizeof base.n + sizeof base.t + sizeof base.state + sizeof base.sent + sizeof base.own + sizeof base.final_list;
+    check("fields of a link", of_link, sizeof link);
+    check("fields of a base", of_base + sizeof base.links, sizeof base);
+    roster_base first = roster_idle(N, T, 1000).base, second = roster_idle(N, T, 1000).base;
+    check("two idle records that differ under memcmp", memcmp(&first, &second, sizeof first) != 0, 0);
 }
 
 int main(void)
 {
-    check("sizeof link", sizeof(roster_link), 140);
-    check("sizeof base", sizeof(roster_base), 2172);
+    fields();
     record();
     answers();
+    nothing_lent();
     if (failures == 0)
-        printf("layout: every field where the header has it; a link takes %zu bytes, a base %zu\n", sizeof(roster_link), sizeof(roster_base));
+        printf("layout: every field where the header has it; a link takes %zu bytes, a base %zu\n", sizeof(roster_link),
+               sizeof(roster_base));
     return failures != 0;
 }

@@ -1,6 +1,7 @@
 //! Arrows and marks. The shaft tells the link (solid, dashed, zigzag), the end tells what became of the message (head, cross, wall):
 //! colour only repeats it.
 
+use crate::layout::STUB;
 use crate::svg::{Anchor, Svg};
 use crate::trace::Outcome;
 
@@ -45,19 +46,44 @@ pub fn classes(shaft: Shaft, tip: Tip) -> String {
 /// An arrow between two bases' lines at height `y`, in a group with its classes.
 pub fn arrow(svg: &mut Svg, shaft: Shaft, tip: Tip, from: i32, to: i32, y: i32) {
     let ahead = (to - from).signum();
-    let short = match tip {
+    draw_shaft(svg, shaft, tip, from, to, y);
+    if shaft != Shaft::Forged {
+        svg.circle("tail", from, y, 4);
+    }
+    draw_tip(svg, tip, to, ahead, y);
+}
+
+/// An arrow from a base that is not drawn: its number stands where the arrow begins.
+pub fn stub(svg: &mut Svg, shaft: Shaft, tip: Tip, sender: usize, from: i32, to: i32, y: i32) {
+    let ahead = (to - from).signum();
+    let number = from + ahead * (STUB / 2 + 2);
+    svg.rect("stub", number - STUB / 2, y - 7, STUB, 14);
+    svg.text("", Anchor::Middle, number, y + 4, &sender.to_string());
+    draw_shaft(svg, shaft, tip, number + ahead * STUB / 2, to, y);
+    draw_tip(svg, tip, to, ahead, y);
+}
+
+fn draw_shaft(svg: &mut Svg, shaft: Shaft, tip: Tip, from: i32, to: i32, y: i32) {
+    let ahead = (to - from).signum();
+    let end = to - ahead * short(tip);
+    match shaft {
+        Shaft::Good | Shaft::Faulty => svg.path("shaft", &format!("M{from} {y}H{end}")),
+        // A forged message comes from no base: the shaft has no tail and wavers.
+        Shaft::Forged => svg.path("shaft", &zigzag(from + ahead * 7, end, y)),
+    }
+}
+
+/// How far before the receiver's line the shaft ends.
+fn short(tip: Tip) -> i32 {
+    match tip {
         Tip::Accepted => 9,
         Tip::Discarded => 10,
         Tip::Refused => 11,
-    };
-    let end = to - ahead * short;
-    match shaft {
-        Shaft::Good | Shaft::Faulty => {
-            svg.path("shaft", &format!("M{from} {y}H{end}"));
-            svg.circle("tail", from, y, 4);
-        }
-        Shaft::Forged => svg.path("shaft", &zigzag(from + ahead * 7, end, y)),
     }
+}
+
+fn draw_tip(svg: &mut Svg, tip: Tip, to: i32, ahead: i32, y: i32) {
+    let end = to - ahead * short(tip);
     match tip {
         Tip::Accepted => svg.path("head", &head(to - ahead * 2, y, ahead)),
         Tip::Discarded => cross(svg, end, y),
@@ -70,7 +96,6 @@ fn head(tip: i32, y: i32, ahead: i32) -> String {
     format!("M{tip} {y}L{back} {}L{back} {}Z", y - 4, y + 4)
 }
 
-/// A forged message comes from no base: the shaft has no tail and wavers.
 fn zigzag(from: i32, to: i32, y: i32) -> String {
     let (step, ahead) = (4, (to - from).signum());
     let mut path = format!("M{from} {y}");

@@ -1,72 +1,107 @@
 //! The picture put together: the legend, a line for each base, the events in their rows, and the end.
 
+use crate::cut::Shown;
 use crate::ending;
-use crate::layout::{Columns, Part, Row, Rows, HEAD, MARGIN};
+use crate::layout::{rows, Columns, Part, Row, HEAD, MARGIN};
 use crate::legend;
 use crate::names::Names;
+use crate::sheet::{self, Sheet};
 use crate::svg::Svg;
-use crate::trace::{Event, Net, Trace};
+use crate::trace::{Net, State, Trace};
 
 /// What every part of the picture looks things up in.
 pub struct Chart<'t> {
     pub trace: &'t Trace,
     pub net: Net,
+    pub shown: &'t Shown,
     pub names: &'t Names,
     pub columns: Columns,
+    pub rows: Vec<Row>,
 }
 
-pub fn picture(trace: &Trace) -> String {
-    let names = Names::of(trace);
+/// Everything on one sheet, as a file of its own.
+pub fn picture(trace: &Trace, shown: &Shown) -> String {
+    let names = Names::of(trace, shown);
     let mut svg = Svg::default();
-    let (mut width, mut bottom) = (legend::WIDTH, legend::draw(&mut svg, trace, &names));
-    if let Some(net) = trace.net {
-        let chart = Chart { trace, net, names: &names, columns: Columns::of(trace, &names) };
+    let (mut width, mut bottom) = (legend::WIDTH, legend::draw(&mut svg, trace, shown, &names));
+    if let Some(chart) = Chart::of(trace, shown, &names) {
         width = width.max(chart.columns.width);
-        bottom = chart.draw(&mut svg, bottom);
+        let sheet = sheet::one(&chart.rows, bottom);
+        bottom = chart.draw(&mut svg, &sheet, true);
     }
-    bottom = ending::draw(&mut svg, trace, &names, width, bottom + 26);
-    svg.finish(width, bottom + MARGIN, &legend::title(trace), &ending::description(trace, &names))
+    bottom = ending::draw(&mut svg, trace, shown, &names, width, bottom + 26);
+    svg.file(width, bottom + MARGIN, &legend::title(trace), &ending::description(trace, shown, &names))
 }
 
-impl Chart<'_> {
-    /// Answers how far down it reaches.
-    fn draw(&self, svg: &mut Svg, top: i32) -> i32 {
-        let rows = Rows::of(self.trace, self.names, top);
-        let foot = rows.bottom + 10;
-        self.stripes(svg, &rows);
-        for b in 1..=self.net.n {
-            self.base_line(svg, b, &rows, foot);
+impl<'t> Chart<'t> {
+    pub fn of(trace: &'t Trace, shown: &'t Shown, names: &'t Names) -> Option<Chart<'t>> {
+        let columns = Columns::of(trace, shown, names);
+        trace.net.map(|net| Chart { trace, net, shown, names, columns, rows: rows(trace, shown, names) })
+    }
+
+    /// One sheet's heads, lines and events, and the boxes at the end under the last one. Answers how far down it reaches.
+    pub fn draw(&self, svg: &mut Svg, sheet: &Sheet, last: bool) -> i32 {
+        let foot = sheet.bottom + 10;
+        self.stripes(svg, sheet);
+        let before = self.states_before(sheet);
+        for &b in &self.shown.bases {
+            self.base_line(svg, b, &before[b - 1], sheet, foot);
         }
-        for &head in &rows.heads {
+        for &head in &sheet.heads {
             self.draw_heads(svg, head);
         }
-        for of_event in rows.rows.chunk_by(|one, next| one.event == next.event) {
+        let same_event = |one: &(usize, i32), next: &(usize, i32)| self.rows[one.0].event == self.rows[next.0].event;
+        for of_event in sheet.rows.chunk_by(same_event) {
             self.draw_event(svg, of_event);
         }
-        self.draw_end_boxes(svg, foot)
+        match last {
+            true => self.draw_end_boxes(svg, foot),
+            false => foot,
+        }
     }
 
     /// Every other event on grey, to lead the eye across.
-    fn stripes(&self, svg: &mut Svg, rows: &Rows) {
-        for row in rows.rows.iter().filter(|row| row.event % 2 == 1) {
-            svg.rect("stripe", MARGIN - 6, row.top, self.columns.width - 2 * MARGIN + 12, row.height);
+    fn stripes(&self, svg: &mut Svg, sheet: &Sheet) {
+        for &(place, top) in &sheet.rows {
+            let row = &self.rows[place];
+            let odd = self.shown.events.binary_search(&row.event).is_ok_and(|i| i % 2 == 1);
+            if odd {
+                svg.rect("stripe", MARGIN - 6, top, self.columns.width - 2 * MARGIN + 12, row.height());
+            }
+        }
+    }
+
+    fn states_before(&self, sheet: &Sheet) -> Vec<State> {
+        match sheet.rows.first() {
+            Some(&(place, _)) => self.trace.states_after(self.rows[place].event),
+            None => self.shown.states.clone(),
         }
     }
 
     /// The line looks otherwise while the base is idle, while it runs, and once it has stopped.
-    fn base_line(&self, svg: &mut Svg, b: usize, rows: &Rows, foot: i32) {
-        let x = self.columns.base(b);
-        let first = |part: Part, happens: fn(&Event) -> bool| {
-            let event = |row: &Row| &self.trace.events[row.event];
-            let found = rows.rows.iter().find(|row| row.part == part && event(row).at == b && happens(event(row)));
-            found.map_or(foot, Row::y)
-        };
-        let start = first(Part::Start, |event| event.starts);
-        let stop = first(Part::Stop, |event| event.stop.is_some());
-        for (class, from, to) in [("idle", rows.heads[0] + HEAD, start), ("running", start, stop), ("stopped", stop, foot)] {
-            if from < to {
-                svg.line(class, (x, from), (x, to));
-            }
+    fn base_line(&self, svg: &mut Svg, b: usize, before: &State, sheet: &Sheet, foot: i32) {
+        let Some(x) = self.columns.base(b) else { return };
+        let mut class = class_of(before);
+        let mut from = sheet.heads[0] + HEAD;
+        for &(place, top) in &sheet.rows {
+            let row = &self.rows[place];
+            let event = &self.trace.events[row.event];
+            let next = match row.part {
+                Part::Start if event.at == b && event.starts => "running",
+                Part::Stop if event.at == b => "stopped",
+                _ => continue,
+            };
+            svg.line(class, (x, from), (x, row.y(top)));
+            (class, from) = (next, row.y(top));
         }
+        svg.line(class, (x, from), (x, foot));
+    }
+}
+
+fn class_of(state: &State) -> &'static str {
+    match state {
+        State::Idle => "idle",
+        State::Running => "running",
+        State::Stopped(_) => "stopped",
     }
 }

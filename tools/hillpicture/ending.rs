@@ -1,28 +1,31 @@
 //! The end of the picture: each base's state under its line, then the lists in full with who holds them, or the line that was refused.
 
 use crate::chart::Chart;
-use crate::layout::MARGIN;
+use crate::cut::{bases_in_words, Shown};
+use crate::layout::{wrapped_to, MARGIN, PLAIN};
 use crate::names::Names;
 use crate::refusals::meaning;
 use crate::svg::{Anchor, Svg};
 use crate::trace::{End, State, Stop, Trace};
 
 const LINE: i32 = 18;
+/// The boxes, and the sentences under them, on a page of their own at the worst.
+pub const BOXES: i32 = 64;
 
 impl Chart<'_> {
     /// A box under each base's line. Answers how far down they reach.
     pub fn draw_end_boxes(&self, svg: &mut Svg, top: i32) -> i32 {
-        let states = self.trace.last_states();
-        let height = if states.iter().any(|state| matches!(state, State::Stopped(_))) { 64 } else { 24 };
-        for (i, state) in states.iter().enumerate() {
-            self.draw_end_box(svg, i + 1, state, top, height);
+        let stopped = self.shown.states.iter().any(|state| matches!(state, State::Stopped(_)));
+        let height = if stopped { BOXES } else { 24 };
+        for &b in &self.shown.bases {
+            self.draw_end_box(svg, b, &self.shown.states[b - 1], top, height);
         }
         top + height
     }
 
     fn draw_end_box(&self, svg: &mut Svg, b: usize, state: &State, top: i32, height: i32) {
-        let (x, width) = (self.columns.base(b), self.columns.gap - 10);
-        let left = x - self.columns.gap / 2 + 5;
+        let Some(x) = self.columns.base(b) else { return };
+        let (left, width) = (x - self.columns.gap / 2 + 5, self.columns.gap - 10);
         let (class, word) = match state {
             State::Idle => ("unfinished", "idle"),
             State::Running => ("unfinished", "running"),
@@ -40,67 +43,96 @@ impl Chart<'_> {
 }
 
 /// Answers how far down it reaches.
-pub fn draw(svg: &mut Svg, trace: &Trace, names: &Names, width: i32, top: i32) -> i32 {
+pub fn draw(svg: &mut Svg, trace: &Trace, shown: &Shown, names: &Names, width: i32, top: i32) -> i32 {
+    let lines = lines(trace, shown, names, width);
     let mut y = top;
-    if let End::Refused { .. } = trace.end {
-        svg.rect("refusal", MARGIN, y - 14, width - 2 * MARGIN, 4 * LINE);
-        for (i, line) in refusal(trace).iter().enumerate() {
+    if is_refused(trace, shown) {
+        svg.rect("refusal", MARGIN, y - 14, width - 2 * MARGIN, (lines.len() as i32 + 1) * LINE);
+        for (i, line) in lines.iter().enumerate() {
             svg.text(if i == 0 { "refusal" } else { "" }, Anchor::Start, MARGIN + 12, y + 6, line);
             y += LINE;
         }
         return y + 6;
     }
-    for line in sentences(trace, names) {
-        svg.text("", Anchor::Start, MARGIN, y, &line);
+    for line in &lines {
+        svg.text("", Anchor::Start, MARGIN, y, line);
         y += LINE;
     }
     y - LINE + 4
 }
 
+/// How much room `draw` takes below its top.
+pub fn height(trace: &Trace, shown: &Shown, names: &Names, width: i32) -> i32 {
+    (lines(trace, shown, names, width).len() as i32 + 1) * LINE
+}
+
 /// The same for a screen reader.
-pub fn description(trace: &Trace, names: &Names) -> String {
-    match trace.end {
-        End::Refused { .. } => refusal(trace).join(" "),
-        End::Report { .. } => sentences(trace, names).join(" "),
+pub fn description(trace: &Trace, shown: &Shown, names: &Names) -> String {
+    sentences(trace, shown, names).join(" ")
+}
+
+fn is_refused(trace: &Trace, shown: &Shown) -> bool {
+    shown.whole_end && matches!(trace.end, End::Refused { .. })
+}
+
+fn lines(trace: &Trace, shown: &Shown, names: &Names, width: i32) -> Vec<String> {
+    let room = width - 2 * MARGIN - 24;
+    sentences(trace, shown, names).iter().flat_map(|sentence| wrapped_to(sentence, PLAIN, room)).collect()
+}
+
+fn sentences(trace: &Trace, shown: &Shown, names: &Names) -> Vec<String> {
+    match &trace.end {
+        End::Refused { number, line, told } if shown.whole_end => refusal(*number, *line, told, trace.events.is_empty()),
+        _ => states(trace, shown, names),
     }
 }
 
-fn refusal(trace: &Trace) -> Vec<String> {
-    let End::Refused { number, line } = trace.end else { return Vec::new() };
-    let shown = if trace.events.is_empty() { "Nothing happened before it." } else { "The picture shows what the lines before it did." };
-    vec![format!("refused {number} line {line}"), format!("Line {line} of the schedule: {}.", meaning(number)), shown.to_string()]
+/// The number, then the line with what the trace tells of it, or else what the number means.
+fn refusal(number: usize, line: usize, told: &[String], nothing_before: bool) -> Vec<String> {
+    let shown = if nothing_before { "Nothing happened before it." } else { "The picture shows what the lines before it did." };
+    let mut lines = vec![format!("refused {number} line {line}")];
+    match told.is_empty() {
+        true => lines.push(format!("Line {line} of the schedule: {}.", meaning(number).unwrap_or("see docs/RULES.md"))),
+        false => lines.extend(told.iter().map(|line| line.trim_start().to_string())),
+    }
+    lines.push(shown.to_string());
+    lines
 }
 
-/// "At the end bases 1, 2 and 3 hold L = 300 400 500, leader 500."
-fn sentences(trace: &Trace, names: &Names) -> Vec<String> {
-    let states = trace.last_states();
+/// "Stopped with L = 300 400 500, leader 500: bases 1, 2 and 3."
+fn states(trace: &Trace, shown: &Shown, names: &Names) -> Vec<String> {
     let mut out = Vec::new();
+    if !shown.whole_end {
+        out.push("The schedule goes on. At the end of this part:".to_string());
+    }
     for (list, _) in names.lists() {
-        let holders = which(&states, |state| matches!(state, State::Stopped(stop) if stop.list == list));
-        let leader = states.iter().find_map(|state| if let State::Stopped(stop) = state { (stop.list == list).then_some(stop.leader) } else { None });
-        if let Some(leader) = leader {
+        let holders = which(shown, |state| matches!(state, State::Stopped(stop) if stop.list == list));
+        let leader = shown.states.iter().find_map(|state| match state {
+            State::Stopped(stop) if stop.list == list => Some(stop.leader),
+            _ => None,
+        });
+        if let (Some(leader), false) = (leader, holders.is_empty()) {
             out.push(format!("Stopped with {} = {}, leader {leader}: {holders}.", names.list(list), names.spaced(list)));
         }
     }
     for (word, wanted) in [("Running", State::Running), ("Idle", State::Idle)] {
-        let bases = which(&states, |state| *state == wanted);
+        let bases = which(shown, |state| *state == wanted);
         if !bases.is_empty() {
             out.push(format!("{word}: {bases}."));
         }
     }
-    if let End::Report { waiting, .. } = trace.end {
-        out.push(format!("Waiting: {waiting} (each a broadcast and a base at the other end of a good link that it has not been carried to)."));
+    if let (End::Report { waiting, .. }, true) = (&trace.end, shown.whole_end) {
+        let each = "each a broadcast and a base at the other end of a good link that it has not been carried to";
+        out.push(format!("Waiting: {waiting} ({each})."));
     }
     out
 }
 
-/// "bases 1, 3 and 4"
-fn which(states: &[State], wanted: impl Fn(&State) -> bool) -> String {
-    let numbers: Vec<String> = (1..).zip(states).filter(|(_, state)| wanted(state)).map(|(b, _)| b.to_string()).collect();
-    match numbers.split_last() {
-        None => String::new(),
-        Some(_) if numbers.len() == states.len() => format!("all {} bases", states.len()),
-        Some((last, [])) => format!("base {last}"),
-        Some((last, others)) => format!("bases {} and {last}", others.join(", ")),
+/// "bases 1, 3 and 4", of those drawn
+fn which(shown: &Shown, wanted: impl Fn(&State) -> bool) -> String {
+    let bases: Vec<usize> = shown.bases.iter().copied().filter(|b| wanted(&shown.states[b - 1])).collect();
+    match bases.len() == shown.states.len() {
+        true => format!("all {} bases", bases.len()),
+        false => bases_in_words(&bases),
     }
 }

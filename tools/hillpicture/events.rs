@@ -1,25 +1,26 @@
 //! An event's rows: the base starts, a message arrives, the base stops.
 
-use crate::arrows::{arrow, classes, start_mark, stop_mark, tick, Shaft, Tip};
+use crate::arrows::{arrow, classes, start_mark, stop_mark, stub, tick, Shaft, Tip};
 use crate::chart::Chart;
 use crate::layout::{schedule_words, Part, Row, NOTE_LINE};
 use crate::svg::{Anchor, Svg};
 use crate::trace::{Cause, Check, Event, Hearing, Outcome, LEAST_CORRECT_FINALS};
 
 impl Chart<'_> {
-    pub fn draw_event(&self, svg: &mut Svg, rows: &[Row]) {
-        let event = &self.trace.events[rows[0].event];
+    /// The rows of one event, by their places and tops.
+    pub fn draw_event(&self, svg: &mut Svg, rows: &[(usize, i32)]) {
+        let event = &self.trace.events[self.rows[rows[0].0].event];
         svg.open("event");
         svg.tip(&event.told.join("\n"));
-        for row in rows {
-            self.draw_row(svg, event, row);
+        for &(place, top) in rows {
+            self.draw_row(svg, event, &self.rows[place], top);
         }
         svg.close();
     }
 
-    fn draw_row(&self, svg: &mut Svg, event: &Event, row: &Row) {
-        let (x, y) = (self.columns.base(event.at), row.y());
-        let baseline = row.top + 16;
+    fn draw_row(&self, svg: &mut Svg, event: &Event, row: &Row, top: i32) {
+        let Some(x) = self.columns.base(event.at) else { return };
+        let (y, baseline) = (row.y(top), Row::baseline(top));
         if row.first {
             svg.text("fixed quiet", Anchor::End, self.columns.numbers, baseline, &event.line.to_string());
             svg.text("fixed", Anchor::Start, self.columns.lines, baseline, &schedule_words(event));
@@ -27,7 +28,7 @@ impl Chart<'_> {
         match row.part {
             Part::Start => start_mark(svg, x, y, event.starts),
             Part::Arrival => {
-                self.draw_arrival(svg, event, y);
+                self.draw_arrival(svg, event, x, y);
                 self.draw_figures(svg, event, baseline);
             }
             Part::Stop => stop_mark(svg, x, y, event.stop.as_ref().is_some_and(|stop| stop.prime)),
@@ -38,12 +39,12 @@ impl Chart<'_> {
             _ => "",
         };
         for (i, line) in row.notes.iter().enumerate() {
-            svg.text(class, Anchor::Start, self.columns.notes, baseline + i as i32 * NOTE_LINE, line);
+            svg.text(class, Anchor::Start, self.columns.figures + 14, row.note_baseline(top) + i as i32 * NOTE_LINE, line);
         }
     }
 
-    /// The arrow, and the message's short name in the gap next to the receiver.
-    fn draw_arrival(&self, svg: &mut Svg, event: &Event, y: i32) {
+    /// The arrow, and the message's short name in the gap next to the receiver. A sender that is not drawn is named by its number.
+    fn draw_arrival(&self, svg: &mut Svg, event: &Event, receiver: i32, y: i32) {
         let (Some(from), Some(hearing)) = (event.from(), &event.hearing) else { return };
         let shaft = match event.cause {
             Cause::Forge { .. } => Shaft::Forged,
@@ -51,10 +52,13 @@ impl Chart<'_> {
             _ => Shaft::Good,
         };
         let tip = Tip::of(&hearing.outcome);
-        let (sender, receiver) = (self.columns.base(from), self.columns.base(event.at));
+        let ahead = if from < event.at { 1 } else { -1 };
         svg.open(&classes(shaft, tip));
-        arrow(svg, shaft, tip, sender, receiver, y);
-        let middle = receiver - (receiver - sender).signum() * self.columns.gap / 2;
+        match self.columns.base(from) {
+            Some(sender) => arrow(svg, shaft, tip, sender, receiver, y),
+            None => stub(svg, shaft, tip, from, receiver - ahead * self.columns.gap, receiver, y),
+        }
+        let middle = receiver - ahead * self.columns.gap / 2;
         svg.text("fixed", Anchor::Middle, middle, y - 6, &self.names.message(&hearing.message));
         svg.close();
     }

@@ -9,15 +9,14 @@ impl Chart<'_> {
     pub fn draw_heads(&self, svg: &mut Svg, top: i32) {
         let columns = &self.columns;
         svg.text("bold", Anchor::Start, columns.lines, top + 38, "line");
-        for b in 1..=self.net.n {
-            let x = columns.base(b);
+        for &b in &self.shown.bases {
+            let Some(x) = columns.base(b) else { continue };
             svg.rect("head", x - columns.gap / 2 + 5, top, columns.gap - 10, HEAD - 4);
             svg.text("bold", Anchor::Middle, x, top + 17, &format!("base {b}"));
             let id = self.trace.ids.get(b - 1).map_or("?".to_string(), u32::to_string);
             svg.text("fixed", Anchor::Middle, x, top + 33, &id);
         }
         self.draw_figure_heads(svg, top);
-        svg.text("bold", Anchor::Start, columns.notes, top + 38, "what happens");
     }
 
     fn draw_figure_heads(&self, svg: &mut Svg, top: i32) {

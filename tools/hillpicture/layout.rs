@@ -1,6 +1,8 @@
-//! Where everything stands: time runs down, a column for each base, the checks' figures and notes to the right. Each event has rows of its own, so that no two
-//! labels meet; a label stands in the gap next to its receiver, so that no base's line runs through it.
+//! Where everything stands: time runs down, a column for each base, and to the right the checks' figures with what happens under them. Each
+//! event has rows of its own, so that no two labels meet; a label stands in the gap next to its receiver, so that no base's line runs
+//! through it.
 
+use crate::cut::Shown;
 use crate::names::Names;
 use crate::svg::width_of;
 use crate::trace::{Cause, Event, Outcome, Trace};
@@ -9,27 +11,31 @@ pub const MARGIN: i32 = 14;
 pub const FIXED: i32 = 12;
 pub const PLAIN: i32 = 11;
 pub const NOTE_LINE: i32 = 13;
+/// From the figures down to the first note.
+const UNDER_FIGURES: i32 = NOTE_LINE + 2;
 /// certified, sum, suspects; tally, Correct-Finals
 pub const FIGURES: [i32; 5] = [62, 50, 60, 48, 58];
 pub const HEAD: i32 = 46;
-const NOTE_WIDTH: i32 = 298;
+/// Under a head, before the first row.
+pub const BELOW_HEAD: i32 = 10;
 const ROW: i32 = 23;
-/// A long picture repeats its heads, so that one is always on the screen.
-const ROWS_BETWEEN_HEADS: usize = 36;
-const FEWEST_ROWS_UNDER_A_HEAD: usize = 14;
 /// The word "secondary" fits the box under a base's line.
 const NARROWEST_GAP: i32 = 84;
+/// Together the bases take at least this much, so that few bases do not stand too close.
+const BASES: i32 = 360;
 /// Room beside a label for the arrow's end and the base's line.
 const BESIDE_LABEL: i32 = 22;
+/// Room for the number of a base that is not drawn.
+pub const STUB: i32 = 22;
 
 pub struct Columns {
     /// Right edge of the schedule's line numbers.
     pub numbers: i32,
     pub lines: i32,
+    bases: Vec<usize>,
     first_base: i32,
     pub gap: i32,
     pub figures: i32,
-    pub notes: i32,
     pub width: i32,
 }
 
@@ -40,39 +46,36 @@ pub enum Part {
     Stop,
 }
 
+/// A row before it has its place.
 pub struct Row {
     pub event: usize,
     pub part: Part,
-    pub top: i32,
-    pub height: i32,
     /// The line's number and words stand in an event's first row.
     pub first: bool,
+    /// A check's figures stand over the notes.
+    pub figures: bool,
     pub notes: Vec<String>,
 }
 
-pub struct Rows {
-    pub rows: Vec<Row>,
-    /// Tops of the heads.
-    pub heads: Vec<i32>,
-    pub bottom: i32,
-}
-
 impl Columns {
-    pub fn of(trace: &Trace, names: &Names) -> Columns {
-        let n = trace.n() as i32;
-        let digits = trace.events.last().map_or(1, |event| event.line.to_string().len()) as i32;
-        let numbers = MARGIN + digits.max(4) * FIXED * 62 / 100;
+    pub fn of(trace: &Trace, shown: &Shown, names: &Names) -> Columns {
+        let events = || shown.events.iter().map(|&i| &trace.events[i]);
+        let digits = events().last().map_or(1, |event| event.line.to_string().len()) as i32;
+        let numbers = MARGIN + digits.max(3) * FIXED * 62 / 100;
         let lines = numbers + 10;
-        let words = trace.events.iter().map(|event| width_of(&schedule_words(event), FIXED)).max().unwrap_or(0);
-        let gap = gap(trace, names);
-        let first_base = lines + words.max(60) + 8 + gap / 2;
-        let figures = first_base + (n - 1).max(0) * gap + gap / 2 + 6;
-        let notes = figures + FIGURES.iter().sum::<i32>() + 14;
-        Columns { numbers, lines, first_base, gap, figures, notes, width: notes + NOTE_WIDTH + MARGIN }
+        let words = events().map(|event| width_of(&schedule_words(event), FIXED)).max().unwrap_or(0);
+        let gap = gap(trace, shown, names);
+        // An arrow from a base that is not drawn begins a gap before its receiver.
+        let side = if shown.bases.len() < trace.n() { gap } else { gap / 2 };
+        let first_base = lines + words.max(60) + 8 + side;
+        let figures = first_base + (shown.bases.len() as i32 - 1).max(0) * gap + side + 6;
+        let width = figures + FIGURES.iter().sum::<i32>() + MARGIN;
+        Columns { numbers, lines, bases: shown.bases.clone(), first_base, gap, figures, width }
     }
 
-    pub fn base(&self, b: usize) -> i32 {
-        self.first_base + (b as i32 - 1) * self.gap
+    /// Nothing for a base that is not drawn.
+    pub fn base(&self, b: usize) -> Option<i32> {
+        self.bases.iter().position(|&known| known == b).map(|place| self.first_base + place as i32 * self.gap)
     }
 
     /// The right edge of a figure's column.
@@ -82,12 +85,13 @@ impl Columns {
 }
 
 /// Between two bases' lines: room for the widest label and for a base's head, and more where there are few bases.
-fn gap(trace: &Trace, names: &Names) -> i32 {
-    let heard = trace.events.iter().filter_map(|event| event.hearing.as_ref());
+fn gap(trace: &Trace, shown: &Shown, names: &Names) -> i32 {
+    let heard = shown.events.iter().filter_map(|&i| trace.events[i].hearing.as_ref());
     let label = heard.map(|hearing| width_of(&names.message(&hearing.message), FIXED)).max().unwrap_or(0);
     let id = trace.ids.iter().map(|id| width_of(&id.to_string(), FIXED)).max().unwrap_or(0);
-    let spread = 440 / trace.n().max(1) as i32;
-    (label + BESIDE_LABEL).max(id + 18).max(spread.min(150)).max(NARROWEST_GAP)
+    let spread = (BASES / shown.bases.len().max(1) as i32).min(150);
+    let stub = if shown.bases.len() < trace.n() { STUB } else { 0 };
+    (label + BESIDE_LABEL + stub).max(id + 18).max(spread).max(NARROWEST_GAP)
 }
 
 /// The schedule's line; a forgery without its bytes.
@@ -100,35 +104,39 @@ pub fn schedule_words(event: &Event) -> String {
     }
 }
 
-impl Rows {
-    pub fn of(trace: &Trace, names: &Names, top: i32) -> Rows {
-        let parts: Vec<(usize, Part)> = trace.events.iter().enumerate().flat_map(|(i, event)| parts(event).into_iter().map(move |part| (i, part))).collect();
-        let mut out = Rows { rows: Vec::new(), heads: vec![top], bottom: top + HEAD + 10 };
-        let mut since_head = 0;
-        for (done, &(event, part)) in parts.iter().enumerate() {
-            let first = done == 0 || parts[done - 1].0 != event;
-            if since_head >= ROWS_BETWEEN_HEADS && first && parts.len() - done >= FEWEST_ROWS_UNDER_A_HEAD {
-                out.heads.push(out.bottom + 8);
-                out.bottom += HEAD + 18;
-                since_head = 0;
-            }
-            let notes: Vec<String> = note(&trace.events[event], part, names).iter().flat_map(|line| wrapped(line, part)).collect();
-            let height = ROW + NOTE_LINE * (notes.len() as i32 - 1).max(0);
-            out.rows.push(Row { event, part, top: out.bottom, height, first, notes });
-            out.bottom += height;
-            since_head += 1;
-        }
-        out
-    }
+pub fn rows(trace: &Trace, shown: &Shown, names: &Names) -> Vec<Row> {
+    let of_event = |&i: &usize| {
+        let event = &trace.events[i];
+        parts(event).into_iter().enumerate().map(move |(place, part)| {
+            let notes = note(event, part, names).iter().flat_map(|line| wrapped(line, part)).collect();
+            Row { event: i, part, first: place == 0, figures: part == Part::Arrival && event.check.is_some(), notes }
+        })
+    };
+    shown.events.iter().flat_map(of_event).collect()
 }
 
 impl Row {
+    pub fn height(&self) -> i32 {
+        let lines = NOTE_LINE * (self.notes.len() as i32 - 1).max(0);
+        let under = if self.figures && !self.notes.is_empty() { UNDER_FIGURES } else { 0 };
+        ROW + under + lines
+    }
+
     /// Where the arrow or the mark is.
-    pub fn y(&self) -> i32 {
+    pub fn y(&self, top: i32) -> i32 {
         match self.part {
-            Part::Arrival => self.top + 17,
-            Part::Start | Part::Stop => self.top + ROW / 2,
+            Part::Arrival => top + 17,
+            Part::Start | Part::Stop => top + ROW / 2,
         }
+    }
+
+    pub fn baseline(top: i32) -> i32 {
+        top + 16
+    }
+
+    /// The first note stands beside the arrow, or under the figures where there are some.
+    pub fn note_baseline(&self, top: i32) -> i32 {
+        Row::baseline(top) + if self.figures { UNDER_FIGURES } else { 0 }
     }
 }
 
@@ -159,13 +167,17 @@ fn note(event: &Event, part: Part, names: &Names) -> Vec<String> {
     }
 }
 
-/// The note in lines that fit their column; a stop's is in a bold face, which is wider.
+/// The note in lines that fit under the figures; a stop's is in a bold face, which is wider.
 fn wrapped(note: &str, part: Part) -> Vec<String> {
     let size = if part == Part::Stop { PLAIN + 2 } else { PLAIN };
+    wrapped_to(note, size, FIGURES.iter().sum())
+}
+
+pub fn wrapped_to(text: &str, size: i32, width: i32) -> Vec<String> {
     let mut lines: Vec<String> = Vec::new();
-    for word in note.split(' ') {
+    for word in text.split(' ') {
         match lines.last_mut() {
-            Some(line) if width_of(line, size) + width_of(word, size) + size < NOTE_WIDTH => {
+            Some(line) if width_of(line, size) + width_of(word, size) + size < width => {
                 line.push(' ');
                 line.push_str(word);
             }

@@ -1,15 +1,19 @@
 //! The top of the picture: the title, what the signs mean, and the lists by name.
 
 use crate::arrows::{arrow, classes, start_mark, stop_mark, tick, Shaft, Tip};
-use crate::layout::{FIXED, MARGIN};
+use crate::cut::Shown;
+use crate::layout::{wrapped_to, FIXED, MARGIN, PLAIN};
 use crate::names::Names;
 use crate::svg::{width_of, Anchor, Svg};
 use crate::trace::Trace;
 
 const LINE: i32 = 19;
-/// Left edges of the legend's blocks.
-const BLOCKS: [i32; 5] = [0, 208, 416, 600, 752];
-pub const WIDTH: i32 = 1000;
+/// Left edges of the legend's blocks, and how far the second row of them stands below the first.
+const BLOCKS: [i32; 3] = [0, 260, 520];
+const SECOND_ROW: i32 = 5 * LINE + 10;
+pub const WIDTH: i32 = 780;
+/// Where the text behind a sample of an arrow begins.
+const BEHIND_ARROW: i32 = 72;
 
 /// "Net of 4 bases, t = 1, faulty links 1–2"
 pub fn title(trace: &Trace) -> String {
@@ -23,26 +27,36 @@ pub fn title(trace: &Trace) -> String {
     format!("Net of {} bases, t = {}, {faulty}", net.n, net.t)
 }
 
-/// Draws the title, the legend and the lists; answers how far down they reach.
-pub fn draw(svg: &mut Svg, trace: &Trace, names: &Names) -> i32 {
+/// The title and a quiet line under it; answers how far down they reach.
+pub fn draw_title(svg: &mut Svg, trace: &Trace, under: &str) -> i32 {
     svg.text("title", Anchor::Start, MARGIN, 30, &title(trace));
+    svg.text("quiet", Anchor::Start, MARGIN, 48, under);
+    60
+}
+
+/// Draws the title, the legend and the lists; answers how far down they reach.
+pub fn draw(svg: &mut Svg, trace: &Trace, shown: &Shown, names: &Names) -> i32 {
     if trace.net.is_none() {
+        svg.text("title", Anchor::Start, MARGIN, 30, &title(trace));
         return 30;
     }
-    svg.text(
-        "quiet",
-        Anchor::Start,
-        MARGIN,
-        48,
-        "Time runs down. An arrow is a message arriving, its short name next to the base that hears it; the figures are that base's checks after it.",
-    );
-    let top = 74;
+    let part = shown.told.as_ref().map_or(String::new(), |told| format!("Only {told}. "));
+    let arrows = "Time runs down. An arrow is a message arriving, its short name next to the base that hears it;";
+    let figures = "the figures are that base's checks after it.";
+    svg.text("title", Anchor::Start, MARGIN, 30, &title(trace));
+    let mut top = 48;
+    for line in wrapped_to(&format!("{part}{arrows} {figures}"), PLAIN, WIDTH) {
+        svg.text("quiet", Anchor::Start, MARGIN, top, &line);
+        top += 15;
+    }
+    top += 12;
     messages(svg, trace, MARGIN + BLOCKS[0], top);
     shafts(svg, MARGIN + BLOCKS[1], top);
     tips(svg, MARGIN + BLOCKS[2], top);
-    bases(svg, MARGIN + BLOCKS[3], top);
-    marks(svg, MARGIN + BLOCKS[4], top);
-    lists(svg, names, top + 5 * LINE + 8)
+    bases(svg, MARGIN + BLOCKS[0], top + SECOND_ROW);
+    starts(svg, MARGIN + BLOCKS[1], top + SECOND_ROW);
+    stops(svg, MARGIN + BLOCKS[2], top + SECOND_ROW);
+    lists(svg, names, top + SECOND_ROW + 5 * LINE)
 }
 
 fn block(svg: &mut Svg, x: i32, top: i32, heading: &str, indent: i32, lines: &[&str]) {
@@ -63,15 +77,16 @@ fn messages(svg: &mut Svg, trace: &Trace, x: i32, top: i32) {
 }
 
 fn shafts(svg: &mut Svg, x: i32, top: i32) {
-    block(svg, x, top, "The link", 72, &["good link", "faulty link, carried", "faulty link, forged"]);
+    block(svg, x, top, "The link", BEHIND_ARROW, &["good link", "faulty link, carried", "faulty link, forged"]);
     for (i, shaft) in [Shaft::Good, Shaft::Faulty, Shaft::Forged].into_iter().enumerate() {
         sample(svg, shaft, Tip::Accepted, x, top + (i as i32 + 1) * LINE - 4);
     }
 }
 
 fn tips(svg: &mut Svg, x: i32, top: i32) {
-    block(svg, x, top, "What became of it", 72, &["accepted", "discarded", "burst refused"]);
-    for (i, (shaft, tip)) in [(Shaft::Good, Tip::Accepted), (Shaft::Good, Tip::Discarded), (Shaft::Forged, Tip::Refused)].into_iter().enumerate() {
+    block(svg, x, top, "What became of it", BEHIND_ARROW, &["accepted", "discarded", "burst refused"]);
+    let samples = [(Shaft::Good, Tip::Accepted), (Shaft::Good, Tip::Discarded), (Shaft::Forged, Tip::Refused)];
+    for (i, (shaft, tip)) in samples.into_iter().enumerate() {
         sample(svg, shaft, tip, x, top + (i as i32 + 1) * LINE - 4);
     }
 }
@@ -88,25 +103,29 @@ fn bases(svg: &mut Svg, x: i32, top: i32) {
         let y = top + (i as i32 + 1) * LINE - 4;
         svg.line(state, (x, y), (x + 34, y));
     }
-    tick(svg, x + 10, top + 4 * LINE);
-    svg.text("", Anchor::Start, x + 44, top + 4 * LINE, "figure met");
 }
 
-fn marks(svg: &mut Svg, x: i32, top: i32) {
-    block(svg, x, top, "Marks", 28, &["the base starts", "start discarded", "stops: prime (all three met)", "stops: secondary (both met)"]);
-    let y = |i: i32| top + i * LINE - 4;
-    start_mark(svg, x + 10, y(1), true);
-    start_mark(svg, x + 10, y(2), false);
-    stop_mark(svg, x + 10, y(3), true);
-    stop_mark(svg, x + 10, y(4), false);
+fn starts(svg: &mut Svg, x: i32, top: i32) {
+    block(svg, x, top, "Marks", 28, &["the base starts", "start discarded", "figure met"]);
+    start_mark(svg, x + 10, top + LINE - 4, true);
+    start_mark(svg, x + 10, top + 2 * LINE - 4, false);
+    tick(svg, x + 5, top + 3 * LINE);
+}
+
+fn stops(svg: &mut Svg, x: i32, top: i32) {
+    block(svg, x, top, "A base stops", 28, &["prime (all three figures met)", "secondary (both figures met)"]);
+    stop_mark(svg, x + 10, top + LINE - 4, true);
+    stop_mark(svg, x + 10, top + 2 * LINE - 4, false);
 }
 
 fn lists(svg: &mut Svg, names: &Names, mut y: i32) -> i32 {
     for (list, is_true) in names.lists() {
         let name = names.list(list);
         let what = if is_true { "the true identifiers" } else { "not the true identifiers" };
-        svg.text("fixed", Anchor::Start, MARGIN, y, &format!("{name} = {} ({what})", names.spaced(list)));
-        y += LINE - 2;
+        for line in wrapped_to(&format!("{name} = {} ({what})", names.spaced(list)), FIXED, WIDTH) {
+            svg.text("fixed", Anchor::Start, MARGIN, y, &line);
+            y += LINE - 2;
+        }
     }
     if names.has_strangers() {
         svg.text("", Anchor::Start, MARGIN, y, "! marks an identifier of no base.");

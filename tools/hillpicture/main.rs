@@ -1,35 +1,42 @@
-//! `hillpicture`: a trace, as `hilltrace` prints it, on standard input; its picture as one self-contained SVG on standard output.
+//! `hillpicture`: a trace, as `hilltrace` prints it, on standard input; its picture on standard output, as one self-contained SVG file or
+//! as pages of HTML.
 //!
-//! Read: `trace` is what a trace says, `read` takes it from text. Named and placed: `names` has the short names, `layout` the columns and rows.
-//! Drawn: `chart` puts together `legend`, `heads`, `events` and `ending`; `arrows` has the arrows and marks, `refusals` the numbers' meaning, `svg` the shapes.
+//! Read: `options` is the command line, `trace` is what a trace says, `read` takes it from text, `cut` has the part that is drawn. Named
+//! and placed: `names` has the short names, `layout` the columns and rows, `sheet` their places on sheets. Drawn: `chart` and `pages` put
+//! together `legend`, `heads`, `events` and `ending`; `arrows` has the arrows and marks, `refusals` the numbers' meaning, `svg` the shapes.
 
 mod arrows;
 mod chart;
+mod cut;
 mod ending;
 mod events;
 mod heads;
 mod layout;
 mod legend;
 mod names;
+mod options;
+mod pages;
 mod read;
 mod refusals;
+mod sheet;
 mod svg;
 mod trace;
 
+use cut::Cut;
+use options::{Wish, USAGE};
 use std::io::{Read, Write};
 use std::process::ExitCode;
 
-const USAGE: &str = "usage: hillpicture < trace > picture.svg";
 const FAILED: u8 = 1;
 const WRONG_USE: u8 = 2;
 
 fn main() -> ExitCode {
     let words: Vec<String> = std::env::args_os().skip(1).map(|word| word.to_string_lossy().into_owned()).collect();
-    let done = match words.first().map(String::as_str) {
-        None => draw(),
-        Some("--help" | "-h") if words.len() == 1 => write(&format!("{USAGE}\n")),
-        Some(word) => {
-            eprintln!("hillpicture: takes no argument {word:?}; {USAGE}");
+    let done = match options::of(&words) {
+        Ok(Wish::Picture { cut, pages }) => draw(&cut, pages),
+        Ok(Wish::Help) => write(&format!("{USAGE}\n")),
+        Err(what) => {
+            eprintln!("hillpicture: {what}; hillpicture --help says more");
             return ExitCode::from(WRONG_USE);
         }
     };
@@ -42,12 +49,13 @@ fn main() -> ExitCode {
     }
 }
 
-fn draw() -> Result<(), String> {
+fn draw(cut: &Cut, pages: bool) -> Result<(), String> {
     let mut bytes = Vec::new();
     std::io::stdin().read_to_end(&mut bytes).map_err(|error| format!("cannot read standard input: {error}"))?;
     let text = String::from_utf8(bytes).map_err(|_| "standard input is not a trace: not text".to_string())?;
     let trace = read::read(&text).map_err(|wrong| format!("standard input is not a trace, line {}: {}", wrong.line, wrong.what))?;
-    write(&chart::picture(&trace))
+    let shown = cut.of(&trace)?;
+    write(&if pages { pages::pages(&trace, &shown) } else { chart::picture(&trace, &shown) })
 }
 
 fn write(text: &str) -> Result<(), String> {

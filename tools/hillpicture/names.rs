@@ -1,61 +1,72 @@
-//! Short names: "A 500", "V 500", "C L", "F X1". L is the list of the true identifiers, X1, X2, ... are other lists in the order of their first appearance.
+//! Short names: "A 500", "V 500", "C L", "F X1". L is the list of the true identifiers; X1, X2, ... are other lists in the order of their
+//! first appearance in the whole trace, whatever part of it is drawn.
 
-use crate::trace::{Broadcast, Message, State, Trace};
+use crate::cut::Shown;
+use crate::trace::{Broadcast, Event, Message, State, Trace};
 use std::collections::BTreeSet;
 
 const NO_BREAK: &str = "\u{a0}";
 
 pub struct Names {
     true_list: Option<Vec<u32>>,
-    /// Whether the true list is ever named.
-    true_list_told: bool,
     /// Lists that are not the true one.
     false_lists: Vec<Vec<u32>>,
+    /// Lists and identifiers of no base that are drawn.
+    drawn: Vec<Vec<u32>>,
+    strangers_drawn: bool,
     ids: BTreeSet<u32>,
-    /// Identifiers of no base.
-    strangers: BTreeSet<u32>,
 }
 
 impl Names {
-    pub fn of(trace: &Trace) -> Names {
+    pub fn of(trace: &Trace, shown: &Shown) -> Names {
         let ids = trace.ids.iter().copied().collect();
-        let mut names = Names { true_list: trace.true_list(), true_list_told: false, false_lists: Vec::new(), ids, strangers: BTreeSet::new() };
-        for event in &trace.events {
-            let heard = event.hearing.iter().map(|hearing| &hearing.message);
-            let sent = event.broadcasts.iter().map(|broadcast| &broadcast.message);
-            heard.chain(sent).for_each(|message| names.meet(message));
-        }
-        for state in trace.last_states() {
-            if let State::Stopped(stop) = state {
+        let true_list = trace.true_list();
+        let mut names = Names { true_list, false_lists: Vec::new(), drawn: Vec::new(), strangers_drawn: false, ids };
+        trace.events.iter().flat_map(messages).for_each(|message| names.meet(message));
+        shown.events.iter().flat_map(|&i| messages(&trace.events[i])).for_each(|message| names.draw(message));
+        for b in &shown.bases {
+            if let State::Stopped(stop) = &shown.states[b - 1] {
                 names.meet_list(&stop.list);
+                names.draw_list(&stop.list);
             }
         }
         names
     }
 
     fn meet(&mut self, message: &Message) {
-        match message {
-            Message::Announce(id) | Message::Verify(id) => self.meet_identifiers(&[*id]),
-            Message::CorrectFinal(list) | Message::VerifyFinal(list) => self.meet_list(list),
-            Message::Bytes(_) => {}
+        if let Message::CorrectFinal(list) | Message::VerifyFinal(list) = message {
+            self.meet_list(list);
         }
     }
 
     fn meet_list(&mut self, list: &[u32]) {
-        if self.true_list.as_deref() == Some(list) {
-            self.true_list_told = true;
-        } else if !self.false_lists.iter().any(|known| known == list) {
+        if self.true_list.as_deref() != Some(list) && !self.false_lists.iter().any(|known| known == list) {
             self.false_lists.push(list.to_vec());
-            self.meet_identifiers(list);
         }
     }
 
-    fn meet_identifiers(&mut self, identifiers: &[u32]) {
-        self.strangers.extend(identifiers.iter().filter(|id| !self.ids.contains(id)));
+    fn draw(&mut self, message: &Message) {
+        match message {
+            Message::Announce(id) | Message::Verify(id) => self.strangers_drawn |= self.is_stranger(*id),
+            Message::CorrectFinal(list) | Message::VerifyFinal(list) => self.draw_list(list),
+            Message::Bytes(_) => {}
+        }
+    }
+
+    fn draw_list(&mut self, list: &[u32]) {
+        self.strangers_drawn |= list.iter().any(|&id| self.is_stranger(id));
+        if !self.drawn.iter().any(|known| known == list) {
+            self.drawn.push(list.to_vec());
+        }
+    }
+
+    /// An identifier of no base.
+    fn is_stranger(&self, id: u32) -> bool {
+        !self.ids.contains(&id)
     }
 
     pub fn has_strangers(&self) -> bool {
-        !self.strangers.is_empty()
+        self.strangers_drawn
     }
 
     pub fn list(&self, list: &[u32]) -> String {
@@ -78,22 +89,28 @@ impl Names {
 
     /// "1: A 500, 2: V 500", to be broken behind a comma only.
     pub fn broadcasts(&self, broadcasts: &[Broadcast]) -> String {
-        let each = broadcasts.iter().map(|broadcast| format!("{}: {}", broadcast.number, self.message(&broadcast.message)).replace(' ', NO_BREAK));
-        each.collect::<Vec<_>>().join(", ")
+        let each = |broadcast: &Broadcast| format!("{}: {}", broadcast.number, self.message(&broadcast.message)).replace(' ', NO_BREAK);
+        broadcasts.iter().map(each).collect::<Vec<_>>().join(", ")
     }
 
-    /// The lists that the picture names, each with whether it is the true one.
+    /// The lists that are drawn, the true one first, each with whether it is that.
     pub fn lists(&self) -> Vec<(&[u32], bool)> {
-        let true_list = self.true_list.iter().filter(|_| self.true_list_told).map(|list| (list.as_slice(), true));
-        true_list.chain(self.false_lists.iter().map(|list| (list.as_slice(), false))).collect()
+        let is_drawn = |list: &&Vec<u32>| self.drawn.contains(list);
+        let true_list = self.true_list.iter().filter(is_drawn).map(|list| (list.as_slice(), true));
+        true_list.chain(self.false_lists.iter().filter(is_drawn).map(|list| (list.as_slice(), false))).collect()
     }
 
     fn identifier(&self, id: u32) -> String {
-        format!("{id}{}", if self.strangers.contains(&id) { "!" } else { "" })
+        format!("{id}{}", if self.is_stranger(id) { "!" } else { "" })
     }
 
     /// "300 400 999!"
     pub fn spaced(&self, list: &[u32]) -> String {
         list.iter().map(|&id| self.identifier(id)).collect::<Vec<_>>().join(" ")
     }
+}
+
+fn messages(event: &Event) -> impl Iterator<Item = &Message> {
+    let heard = event.hearing.iter().map(|hearing| &hearing.message);
+    heard.chain(event.broadcasts.iter().map(|broadcast| &broadcast.message))
 }

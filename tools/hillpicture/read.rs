@@ -1,6 +1,7 @@
-//! A trace's text, read line by line. Whatever is not a line of a trace, or not in its place, is named by its line number.
+//! A trace's text, read line by line. What the picture needs has to be there and in its place, else the line is named by its number; what
+//! the trace says besides is kept and shown as it stands.
 
-use crate::trace::{Broadcast, Cause, Check, End, Event, Hearing, Message, Net, Outcome, State, Stop, Trace, LEAST_CORRECT_FINALS};
+use crate::trace::{Broadcast, Cause, Check, End, Event, Hearing, Message, Net, Outcome, State, Stop, Trace};
 
 pub struct Wrong {
     /// Of the trace, from 1; one past the last where something is missing.
@@ -9,13 +10,31 @@ pub struct Wrong {
 }
 
 pub fn read(text: &str) -> Result<Trace, Wrong> {
+    let lines: Vec<&str> = text.lines().collect();
+    let end = end_of(&lines);
     let mut reader = Reader::default();
-    let mut last = 0;
-    for (i, line) in text.lines().enumerate() {
-        last = i + 1;
-        reader.take(line).map_err(|what| Wrong { line: last, what: format!("{what}: {}", quoted(line)) })?;
+    for (i, line) in lines[..end].iter().enumerate() {
+        reader.take(line).map_err(|what| Wrong { line: i + 1, what: format!("{what}: {}", quoted(line)) })?;
     }
-    reader.finish().map_err(|what| Wrong { line: last + 1, what })
+    let last = lines.len();
+    let refused = (end < last).then(|| refusal_of(&lines[end..])).flatten();
+    reader.finish(refused).map_err(|what| Wrong { line: last + 1, what })
+}
+
+/// Where the trace's account of a refused line begins, at the end of the trace; its length where no line is refused.
+fn end_of(lines: &[&str]) -> usize {
+    let Some(End::Refused { line, .. }) = lines.last().and_then(|last| refusal_of(&[last])) else { return lines.len() };
+    let begin = format!("line {line}: ");
+    lines.iter().position(|text| text.starts_with(&begin)).unwrap_or(lines.len() - 1)
+}
+
+/// Lines about the refused line, the last of them `refused N line L`.
+fn refusal_of(lines: &[&str]) -> Option<End> {
+    let (last, told) = lines.split_last()?;
+    let words: Vec<&str> = last.split(' ').collect();
+    let ["refused", number, "line", line] = words[..] else { return None };
+    let told = told.iter().map(|line| line.to_string()).collect();
+    Some(End::Refused { number: number.parse().ok()?, line: line.parse().ok()?, told })
 }
 
 /// The line in one line of plain text, not too long.
@@ -46,8 +65,8 @@ impl Reader {
         if self.end.is_some() {
             return Err("nothing follows the trace's last line".to_string());
         }
-        if let Some(told) = line.strip_prefix("  ") {
-            return self.take_told(told);
+        if line.starts_with("  ") {
+            return self.take_told(line);
         }
         self.event_is_whole()?;
         if let Some(rest) = line.strip_prefix("line ") {
@@ -70,7 +89,7 @@ impl Reader {
         match (words, self.net) {
             (["net", n, t], None) => {
                 let net = Net { n: n.parse().ok()?, t: t.parse().ok()? };
-                self.net = ((2..=16).contains(&net.n) && 2 * net.t + 2 <= net.n).then_some(net);
+                self.net = (2 * net.t + 2 <= net.n).then_some(net);
                 self.net.map(|_| ())
             }
             (["id", b, v], Some(net)) => {
@@ -104,26 +123,27 @@ impl Reader {
         between_two.then_some(())
     }
 
-    /// An indented line: what an event did.
-    fn take_told(&mut self, told: &str) -> Taken {
-        let (Some(net), Some(event)) = (self.net, self.events.last_mut()) else { return Err("no start, carry or forgery stands before it".to_string()) };
+    /// An indented line: what an event did. What is said besides is kept as it is.
+    fn take_told(&mut self, line: &str) -> Taken {
+        let (Some(net), Some(event)) = (self.net, self.events.last_mut()) else {
+            return Err("no start, carry or forgery stands before it".to_string());
+        };
         if !self.report.is_empty() {
             return Err(NO_TRACE_LINE.to_string());
         }
-        event.told.push(told.to_string());
-        let about = format!("base {}", event.at);
-        let rest = told.strip_prefix(&about).filter(|rest| rest.starts_with([' ', ','])).ok_or_else(|| format!("a line about {about} is expected"))?;
-        let rest = rest.trim_start_matches([',', ' ']);
-        take_outcome(event, net, rest).ok_or_else(|| NO_TRACE_LINE.to_string())
+        event.told.push(line.trim_start().to_string());
+        let about = format!("  base {}", event.at);
+        match line.strip_prefix(&about).filter(|rest| rest.starts_with([' ', ','])) {
+            Some(rest) => take_outcome(event, net, rest.trim_start_matches([',', ' '])).ok_or_else(|| NO_TRACE_LINE.to_string()),
+            None if line.starts_with("  base ") => Err(format!("a line about {} is expected", about.trim_start())),
+            None => Ok(()),
+        }
     }
 
-    /// The report's lines, or `refused N line L`.
+    /// The report's lines.
     fn take_end(&mut self, line: &str) -> Option<()> {
         let words: Vec<&str> = line.split(' ').collect();
         match words[..] {
-            ["refused", number, "line", line] if self.report.is_empty() => {
-                self.end = Some(End::Refused { number: number.parse().ok()?, line: line.parse().ok()? });
-            }
             ["base", b, ref state @ ..] if self.has_ids() => {
                 let in_turn = self.report.len() < self.ids.len() && b.parse() == Ok(self.report.len() + 1);
                 self.report.push(state_of(state, self.ids.len())?);
@@ -151,23 +171,28 @@ impl Reader {
         word.parse().ok().filter(|b| (1..=self.ids.len()).contains(b))
     }
 
-    fn finish(self) -> Result<Trace, String> {
-        let end = self.end.ok_or("the trace ends without a report or a refusal")?;
+    fn finish(self, refused: Option<End>) -> Result<Trace, String> {
+        if refused.is_some() {
+            self.event_is_whole()?;
+        }
+        let end = refused.filter(|_| self.report.is_empty()).or(self.end).ok_or("the trace ends without a report or a refusal")?;
         Ok(Trace { net: self.net, ids: self.ids, faulty: self.faulty, events: self.events, end })
     }
 }
 
-/// What follows `base B`.
+/// What follows `base B`. A line that is none of these is told besides.
 fn take_outcome(event: &mut Event, net: Net, rest: &str) -> Option<()> {
     if let Some(heard) = rest.strip_prefix("hears ") {
         let hearing = hearing_of(heard, event.from()?, net.n)?;
         return event.hearing.replace(hearing).is_none().then_some(());
     }
-    let plain = rest.replace(',', "");
-    let words: Vec<&str> = plain.split(' ').collect();
+    if rest.contains(" check") {
+        event.check = Some(check_of(rest)?);
+        return Some(());
+    }
+    let words: Vec<&str> = rest.split(' ').collect();
     match words[..] {
         ["starts"] => event.starts = true,
-        ["has", "started:", "discarded"] if event.cause == Cause::Start => {}
         ["broadcasts", number, ref message @ ..] => {
             let number = number.strip_suffix(':')?.parse().ok()?;
             event.broadcasts.push(Broadcast { number, message: message_of(message, net.n)? });
@@ -176,22 +201,21 @@ fn take_outcome(event: &mut Event, net: Net, rest: &str) -> Option<()> {
             State::Stopped(stop) => event.stop = Some(stop),
             _ => return None,
         },
-        [_, "check:", ..] => event.check = Some(check_of(&words, net)?),
-        _ => return None,
+        _ => {}
     }
     Some(())
 }
 
-/// `Announce 500 from base 1 on link 1: accepted`
+/// `Announce 500 from base 1 on link 1: accepted`; a forgery may be heard `as if from base 1`.
 fn hearing_of(heard: &str, from: usize, n: usize) -> Option<Hearing> {
     let (message, rest) = heard.split_once(" from base ")?;
     let (sender, rest) = rest.split_once(" on link ")?;
     let (link, outcome) = rest.split_once(": ")?;
-    let words: Vec<&str> = message.split(' ').collect();
+    let words: Vec<&str> = message.trim_end_matches(" as if").split(' ').collect();
     let message = message_of(&words, n)?;
     let burst = matches!(message, Message::Bytes(_));
     let outcome = match outcome.split_once(", ").unwrap_or((outcome, "")) {
-        ("accepted", "") if !burst => Outcome::Accepted,
+        ("accepted", _) if !burst => Outcome::Accepted,
         ("discarded", why) if !burst => Outcome::Discarded(why.to_string()),
         (refused, why) if burst => {
             let number: usize = refused.strip_prefix("refused by ")?.parse().ok()?;
@@ -231,20 +255,14 @@ fn state_of(words: &[&str], n: usize) -> Option<State> {
     }
 }
 
-/// The thresholds have to be the net's: the picture shows them once, over the figures.
-fn check_of(words: &[&str], net: Net) -> Option<Check> {
-    let figure = |word: &str| word.parse::<usize>().ok();
-    match *words {
-        ["prime", "check:", "certified", certified, "of", n, "sum", sum, "of", least, "suspects", suspects, "of", most, "runs", "on"]
-        | ["prime", "check:", "certified", certified, "of", n, "sum", sum, "of", least, "suspects", suspects, "of", most, "prime"] => {
-            let thresholds = (figure(n)?, figure(least)?, figure(most)?) == (net.n, net.least_sum(), net.t);
-            thresholds.then_some(Check::Prime { certified: figure(certified)?, sum: figure(sum)?, suspects: figure(suspects)? })
-        }
-        ["secondary", "check:", "tally", tally, "of", least, "Correct-Finals", correct_finals, "of", two, "runs", "on"]
-        | ["secondary", "check:", "tally", tally, "of", least, "Correct-Finals", correct_finals, "of", two, "secondary"] => {
-            let thresholds = (figure(least)?, figure(two)?) == (net.least_tally(), LEAST_CORRECT_FINALS);
-            thresholds.then_some(Check::Secondary { tally: figure(tally)?, correct_finals: figure(correct_finals)? })
-        }
+/// The figures of a check, each behind its word; the thresholds are the net's, and the picture shows them once, over the figures.
+fn check_of(text: &str) -> Option<Check> {
+    let plain = text.replace([',', ':', ';'], "");
+    let words: Vec<&str> = plain.split(' ').collect();
+    let figure = |name: &str| words.windows(2).find(|two| two[0] == name).and_then(|two| two[1].parse().ok());
+    match words[0] {
+        "prime" => Some(Check::Prime { certified: figure("certified")?, sum: figure("sum")?, suspects: figure("suspects")? }),
+        "secondary" => Some(Check::Secondary { tally: figure("tally")?, correct_finals: figure("Correct-Finals")? }),
         _ => None,
     }
 }

@@ -1,9 +1,10 @@
-//! The picture's text: shapes with a class each, their look in one style sheet. All lengths are whole pixels, so that a picture is the same everywhere.
+//! The picture's text: shapes with a class each, their look in one style sheet. All lengths are whole pixels, so that a picture is the same
+//! everywhere.
 
 use std::fmt::Write;
 
 /// What the classes look like. Text that has to fit is in a fixed-pitch face, which is equally wide everywhere.
-const STYLE: &str = r##"
+pub const STYLE: &str = r##"
 text { font-family: "DejaVu Sans", Verdana, Arial, sans-serif; font-size: 11px; fill: #111; }
 text.title { font-size: 17px; font-weight: bold; }
 text.bold { font-weight: bold; }
@@ -15,6 +16,7 @@ rect.paper { fill: #fff; }
 rect.stripe { fill: #f1f3f5; }
 rect.head { fill: #fff; stroke: #111; stroke-width: 1.5; }
 rect.unfinished { fill: #fff; stroke: #111; stroke-width: 1; stroke-dasharray: 3 3; }
+rect.stub { fill: #fff; stroke: #888; stroke-width: 1; }
 rect.refusal { fill: #fff; stroke: #a0000e; stroke-width: 2.5; }
 rect.prime { fill: #111; stroke: #111; stroke-width: 1.5; }
 rect.secondary { fill: #fff; stroke: #111; stroke-width: 2; }
@@ -53,15 +55,22 @@ pub struct Svg {
 }
 
 impl Svg {
-    /// The whole file. `title` and `description` are what a screen reader says.
-    pub fn finish(self, width: i32, height: i32, title: &str, description: &str) -> String {
-        let size = format!("width=\"{width}\" height=\"{height}\" viewBox=\"0 0 {width} {height}\"");
-        let head = format!(
-            "<?xml version=\"1.0\" encoding=\"UTF-8\"?>\n<svg xmlns=\"http://www.w3.org/2000/svg\" {size} role=\"img\">\n<title>{}</title>\n",
-            escaped(title)
-        );
-        let paper = format!("<rect class=\"paper\" x=\"0\" y=\"0\" width=\"{width}\" height=\"{height}\"/>\n");
-        format!("{head}<desc>{}</desc>\n<style>{STYLE}</style>\n{paper}{}</svg>\n", escaped(description), self.body)
+    /// A file of its own. `title` and `description` are what a screen reader says.
+    pub fn file(self, width: i32, height: i32, title: &str, description: &str) -> String {
+        let size = format!("width=\"{width}\" height=\"{height}\"");
+        let style = format!("<desc>{}</desc>\n<style>{STYLE}</style>\n", escaped(description));
+        format!("<?xml version=\"1.0\" encoding=\"UTF-8\"?>\n{}", self.element(&size, width, height, title, &style))
+    }
+
+    /// A part of a page of HTML, which has the style.
+    pub fn inline(self, width: i32, height: i32, title: &str) -> String {
+        self.element("", width, height, title, "")
+    }
+
+    fn element(self, size: &str, width: i32, height: i32, title: &str, more: &str) -> String {
+        let head = format!("<svg xmlns=\"http://www.w3.org/2000/svg\" {size} viewBox=\"0 0 {width} {height}\" role=\"img\">");
+        let paper = format!("<rect class=\"paper\" x=\"0\" y=\"0\" width=\"{width}\" height=\"{height}\"/>");
+        format!("{head}\n<title>{}</title>\n{more}{paper}\n{}</svg>\n", escaped(title), self.body)
     }
 
     pub fn rect(&mut self, class: &str, x: i32, y: i32, width: i32, height: i32) {
@@ -108,7 +117,7 @@ impl Svg {
 }
 
 /// Text as XML has it. A control character is not allowed there, not even escaped.
-fn escaped(text: &str) -> String {
+pub fn escaped(text: &str) -> String {
     let mut out = String::new();
     for c in text.chars() {
         match c {

@@ -18,8 +18,16 @@ pub struct Net {
 }
 
 pub enum End {
-    Report { bases: Vec<State>, waiting: usize },
-    Refused { number: usize, line: usize },
+    Report {
+        bases: Vec<State>,
+        waiting: usize,
+    },
+    /// With what the trace tells about the line, if anything.
+    Refused {
+        number: usize,
+        line: usize,
+        told: Vec<String>,
+    },
 }
 
 #[derive(Clone, PartialEq, Eq)]
@@ -115,6 +123,13 @@ impl Event {
         }
     }
 
+    pub fn discarded(&self) -> bool {
+        match &self.hearing {
+            Some(hearing) => matches!(hearing.outcome, Outcome::Discarded(_)),
+            None => !self.starts,
+        }
+    }
+
     /// What is broadcast because the base starts, because of what it hears, and because it stops.
     pub fn broadcasts_by_cause(&self) -> [&[Broadcast]; 3] {
         let first = if self.starts { BROADCASTS_OF_A_START.min(self.broadcasts.len()) } else { 0 };
@@ -122,6 +137,14 @@ impl Event {
         let last = rest.len() - usize::from(self.stop.is_some()).min(rest.len());
         let (arrival, stop) = rest.split_at(last);
         [start, arrival, stop]
+    }
+
+    /// The base's state behind the event, where the event changes it.
+    fn change(&self) -> Option<State> {
+        match &self.stop {
+            Some(stop) => Some(State::Stopped(stop.clone())),
+            None => self.starts.then_some(State::Running),
+        }
     }
 }
 
@@ -141,18 +164,12 @@ impl Trace {
         (self.net.is_some() && list.len() == self.n()).then_some(list)
     }
 
-    /// Each base's state after the last event: the report's, or as the events of a refused schedule left it.
-    pub fn last_states(&self) -> Vec<State> {
-        if let End::Report { bases, .. } = &self.end {
-            return bases.clone();
-        }
+    /// Each base's state after the first `count` events.
+    pub fn states_after(&self, count: usize) -> Vec<State> {
         let mut states = vec![State::Idle; self.n()];
-        for event in &self.events {
-            if event.starts {
-                states[event.at - 1] = State::Running;
-            }
-            if let Some(stop) = &event.stop {
-                states[event.at - 1] = State::Stopped(stop.clone());
+        for event in &self.events[..count] {
+            if let Some(state) = event.change() {
+                states[event.at - 1] = state;
             }
         }
         states

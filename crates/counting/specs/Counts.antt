@@ -1,4 +1,5 @@
--- How many of the numbers 0 .. k - 1 pass a test: lower bounds from members that are known, upper bounds from what the members have in common.
+-- How many of the numbers 0 .. k - 1 pass a test: lower bounds from members that are
+-- known, upper bounds from what the members have in common.
 use Prim.Native.Nat.{ℕ, zero, suc, _+_, _≤_, _<_, zero-le}
 use mathlib.Core.Path.{_≡_, refl, sym, ap, _∙_}
 use mathlib.Core.Logic.{_≢_, _⊎_, inl, inr}
@@ -46,7 +47,12 @@ count-two k p a b ha hb ne e f = omega (arith, sum-two k (λ x. bit (p x)) a b h
 -- where each passes one of two tests
 pub count-cover : (k : ℕ) (p q : ℕ → Bool) → ((x : ℕ) → x < k → (p x ≡ true) ⊎ (q x ≡ true)) → k ≤ count k p + count k q
 unfolding count
-count-cover k p q h = omega (arith, sum-same k 1, sum-mono k (λ x. 1) (λ x. bit (p x) + bit (q x)) (λ x l. one x (h x l)), sum-add k (λ x. bit (p x)) (λ x. bit (q x)))
+count-cover k p q h = omega (
+  arith,
+  sum-same k 1,
+  sum-mono k (λ x. 1) (λ x. bit (p x) + bit (q x)) (λ x l. one x (h x l)),
+  sum-add k (λ x. bit (p x)) (λ x. bit (q x)),
+)
   where
     one : (x : ℕ) → (p x ≡ true) ⊎ (q x ≡ true) → 1 ≤ bit (p x) + bit (q x)
     one x (inl e) = omega (arith, bit-yes e)
@@ -62,7 +68,8 @@ count-rest k p = count-cover k p (λ x. not (p x)) (λ x l. either (p x))
 -- ---- from above
 pub count-fewer : (k : ℕ) (p q : ℕ → Bool) → ((x : ℕ) → x < k → p x ≡ true → q x ≡ true) → count k p ≤ count k q
 unfolding count
-count-fewer k p q h = sum-mono k (λ x. bit (p x)) (λ x. bit (q x)) (λ x l. bit-implies (p x) (bit (q x)) (λ e. omega (arith, bit-yes (h x l e))))
+count-fewer k p q h =
+    sum-mono k (λ x. bit (p x)) (λ x. bit (q x)) (λ x l. bit-implies (p x) (bit (q x)) (λ e. omega (arith, bit-yes (h x l e))))
 
 pub count-same : (k : ℕ) (p q : ℕ → Bool) → ((x : ℕ) → x < k → p x ≡ q x) → count k p ≡ count k q
 unfolding count
@@ -70,7 +77,11 @@ count-same k p q h = sum-cong k (λ x. bit (p x)) (λ x. bit (q x)) (λ x l. ap 
 
 pub count-or : (k : ℕ) (p q : ℕ → Bool) → count k (λ x. or (p x) (q x)) ≤ count k p + count k q
 unfolding count
-count-or k p q = omega (arith, sum-mono k (λ x. bit (or (p x) (q x))) (λ x. bit (p x) + bit (q x)) (λ x l. bit-or (p x) (q x)), sum-add k (λ x. bit (p x)) (λ x. bit (q x)))
+count-or k p q = omega (
+  arith,
+  sum-mono k (λ x. bit (or (p x) (q x))) (λ x. bit (p x) + bit (q x)) (λ x l. bit-or (p x) (q x)),
+  sum-add k (λ x. bit (p x)) (λ x. bit (q x)),
+)
 
 -- each that passes adds one to a sum of other numbers
 pub count-below : (k : ℕ) (p : ℕ → Bool) (f : ℕ → ℕ) → ((x : ℕ) → x < k → p x ≡ true → 1 ≤ f x) → count k p ≤ sum k f
@@ -104,7 +115,8 @@ unfolding count sum
 counted zero p h = absurd (omega arith)
 counted (suc k) p h = go (p k) refl h (λ r. counted k p r)
   where
-    go : (t : Bool) → p k ≡ t → 1 ≤ bit t + sum k (λ x. bit (p x)) → (1 ≤ sum k (λ x. bit (p x)) → (a : ℕ) × (a < k) × (p a ≡ true)) → (a : ℕ) × (a < suc k) × (p a ≡ true)
+    go : (t : Bool) → p k ≡ t → 1 ≤ bit t + sum k (λ x. bit (p x)) → (1 ≤ sum k (λ x. bit (p x)) → (a : ℕ) × (a < k) × (p a ≡ true))
+        → (a : ℕ) × (a < suc k) × (p a ≡ true)
     go true e r ih = (k, le-refl (suc k), e)
     go false e r ih = let w = ih (unfold bit in omega arith) in (w .0, omega arith, w .2)
 
@@ -125,7 +137,23 @@ counted-two (suc k) p h = go (p k) refl h (λ r. counted-two k p r)
     go : (t : Bool) → p k ≡ t → 2 ≤ bit t + sum k (λ x. bit (p x)) → (2 ≤ sum k (λ x. bit (p x)) → TwoOf k p) → TwoOf (suc k) p
     go true e r ih =
         let w = counted k p (unfold bit in omega arith) in
-        record { one = k; other = w .0; one-below = le-refl (suc k); other-below = omega arith; apart = omega arith; one-passes = e; other-passes = w .2 }
+        record {
+          one = k;
+          other = w .0;
+          one-below = le-refl (suc k);
+          other-below = omega arith;
+          apart = omega arith;
+          one-passes = e;
+          other-passes = w .2;
+        }
     go false e r ih =
         let w = ih (unfold bit in omega arith) in
-        record { one = w .one; other = w .other; one-below = omega arith; other-below = omega arith; apart = w .apart; one-passes = w .one-passes; other-passes = w .other-passes }
+        record {
+          one = w .one;
+          other = w .other;
+          one-below = omega arith;
+          other-below = omega arith;
+          apart = w .apart;
+          one-passes = w .one-passes;
+          other-passes = w .other-passes;
+        }

@@ -1,5 +1,5 @@
--- Tables over the pairs of 0 .. n - 1, such as "the link of x and y is faulty" (1, or 0): the degree of x is the sum of its row. Degrees add up to twice
--- the links, so all counts of the agreement argument are sums of degrees.
+-- Tables over the pairs of 0 .. n - 1, such as "the link of x and y is faulty" (1, or 0): the degree of x is the sum of its row. Degrees
+-- add up to twice the links, so all counts of the agreement argument are sums of degrees.
 use Prim.Native.Nat.{ℕ, zero, suc, _+_, _*_, _≤_, _<_}
 use mathlib.Core.Path.{_≡_, refl, sym, _∙_}
 use mathlib.Core.Bool.{Bool, true, false, not}
@@ -13,6 +13,7 @@ use Rattle.lists.specs.Choice.{and, or}
 use Rattle.counting.specs.Sums.{bit, sum, pairs}
 use Rattle.counting.specs.Parts.{_⊞_, sum-⊞, only, only-there, sum-only}
 use Rattle.counting.specs.Sums.Laws.{sum-swap, sum-same, sum-mono, sum-add, sum-cong, sum-zeros}
+use Rattle.counting.specs.Sums.Bounds.{sum-none}
 use Rattle.counting.specs.Counts.{count, bit-or, count-once, count-rest, count-below, TwoOf, counted-two}
 
 abbrev pub degree : ℕ → (ℕ → ℕ → ℕ) → ℕ → ℕ
@@ -31,7 +32,8 @@ total-mono n F G h = sum-mono n (degree n F) (degree n G) (λ x l. sum-mono n (F
 
 pub total-add : (n : ℕ) (F G : ℕ → ℕ → ℕ) → total n (λ x y. F x y + G x y) ≡ total n F + total n G
 unfolding total
-total-add n F G = sum-cong n (λ x. sum n (λ y. F x y + G x y)) (λ x. sum n (F x) + sum n (G x)) (λ x l. sum-add n (F x) (G x)) ∙ sum-add n (degree n F) (degree n G)
+total-add n F G = sum-cong n (λ x. sum n (λ y. F x y + G x y)) (λ x. sum n (F x) + sum n (G x)) (λ x l. sum-add n (F x) (G x))
+    ∙ sum-add n (degree n F) (degree n G)
 
 pub total-turned : (n : ℕ) (F : ℕ → ℕ → ℕ) → total n (λ x y. F y x) ≡ total n F
 unfolding total
@@ -39,7 +41,7 @@ total-turned n F = sum-swap n n (λ x y. F y x)
 
 pub total-none : (n : ℕ) → total n (λ x y. 0) ≡ 0
 unfolding total
-total-none n = sum-cong n (λ x. sum n (λ y. 0)) (λ x. 0) (λ x l. sum-zeros n) ∙ sum-zeros n
+total-none n = sum-none n (λ x. sum n (λ y. 0)) (λ x l. sum-zeros n)
 
 -- ---- the link of a and b, seen from x to y
 unfoldable pub edge : ℕ → ℕ → ℕ → ℕ → Bool
@@ -71,7 +73,8 @@ module _ (n : ℕ) (name : ℕ → ℕ) (apart : (x y : ℕ) → name x ≡ name
   unfolding edge spot
   edge-total = omega (
     arith,
-    total-mono n (λ x y. bit (edge a b (name x) (name y))) (λ x y. spot x y + spot y x) (λ x y lx ly. bit-or (and (eqb a (name x)) (eqb b (name y))) (and (eqb a (name y)) (eqb b (name x)))),
+    total-mono n (λ x y. bit (edge a b (name x) (name y))) (λ x y. spot x y + spot y x)
+        (λ x y lx ly. bit-or (and (eqb a (name x)) (eqb b (name y))) (and (eqb a (name y)) (eqb b (name x)))),
     total-add n spot (λ x y. spot y x),
     total-turned n spot,
     spot-total,
@@ -110,7 +113,8 @@ pairs-twice (suc n) F same none =
     omega (arith, none n, sum-add n (λ x. F x n) (λ x. sum n (F x)))
 
 -- ---- two tables that leave nothing out but the row of P
-pub rows-covered : (n : ℕ) (F v : ℕ → ℕ → ℕ) (P : ℕ) → P < n → ((x j : ℕ) → x < n → j < n → x ≢ P → 1 ≤ v x j + F x j) → n * n ≤ n + total n v + total n F
+pub rows-covered : (n : ℕ) (F v : ℕ → ℕ → ℕ) (P : ℕ) → P < n → ((x j : ℕ) → x < n → j < n → x ≢ P → 1 ≤ v x j + F x j)
+    → n * n ≤ n + total n v + total n F
 unfolding total
 rows-covered n F v P P-in each =
     let r : sum n (λ x. n) ≤ sum n (degree n v ⊞ degree n F ⊞ only P (λ x. n)) = sum-mono n _ _ (λ x l. row-covered x l (ℕ-discrete P x)) in

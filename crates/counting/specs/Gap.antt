@@ -28,8 +28,15 @@ unfolding sum
 sum-skip zero zero f h = omega arith
 sum-skip zero (suc b) f h = absurd (omega arith)
 sum-skip (suc m) b f h = elim (ℕ-discrete b (suc m)) [
-  | yes e ↦ omega (arith, ap f e, ap f (skip-low b m (omega arith)), sum-cong m (λ i. f (skip b i)) f (λ i l. ap f (skip-low b i (omega arith))))
-  | no e ↦ (let r : sum m (λ i. f (skip b i)) + f b ≡ f m + sum m f = sum-skip m b f (omega arith) in omega (arith, ap f (skip-high b m (omega arith))))
+  | yes e ↦ omega (
+    arith,
+    ap f e,
+    ap f (skip-low b m (omega arith)),
+    sum-cong m (λ i. f (skip b i)) f (λ i l. ap f (skip-low b i (omega arith))),
+  )
+  | no e ↦ (
+      let r : sum m (λ i. f (skip b i)) + f b ≡ f m + sum m f = sum-skip m b f (omega arith) in
+      omega (arith, ap f (skip-high b m (omega arith))))
 ]
 
 -- the pairs without b, and the pairs with b, are all pairs
@@ -43,7 +50,8 @@ module _ (m b : ℕ) (F : ℕ → ℕ → ℕ) (same : Symmetric F) (none : (x :
   rows : total m without + sum m (λ i. F (skip b i) b) ≡ sum m (λ i. degree (suc m) F (skip b i))
   unfolding without total
   rows = sym (sum-add m (λ i. sum m (λ j. F (skip b i) (skip b j))) (λ i. F (skip b i) b))
-      ∙ sum-cong m (λ i. sum m (λ j. F (skip b i) (skip b j)) + F (skip b i) b) (λ i. degree (suc m) F (skip b i)) (λ i l. sum-skip m b (F (skip b i)) b-in)
+      ∙ sum-cong m (λ i. sum m (λ j. F (skip b i) (skip b j)) + F (skip b i) b) (λ i. degree (suc m) F (skip b i))
+      (λ i l. sum-skip m b (F (skip b i)) b-in)
 
   pub pairs-skip : pairs m (λ i j. F (skip b i) (skip b j)) + sum m (λ i. F (skip b i) b) ≡ pairs (suc m) F
   unfolding without

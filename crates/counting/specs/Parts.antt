@@ -1,5 +1,5 @@
--- Sums that are put together and cut down: the sum of two functions, and a function on a set of numbers, zero off it. Both stay shut, so that a law
--- finds its arguments under a sum.
+-- Sums that are put together and cut down: the sum of two functions, and a function on a set
+-- of numbers, zero off it. Both stay shut, so that a law finds its arguments under a sum.
 use Prim.Native.Nat.{ℕ, zero, suc, _+_, _≤_, _<_}
 use mathlib.Core.Path.{_≡_, ap}
 use mathlib.Core.Logic.{_≢_}

@@ -1,4 +1,5 @@
--- The pigeonhole principle: different numbers, each met among some places, are no more than the places, and fewer where a place holds none of them.
+-- The pigeonhole principle: different numbers, each met among some places, are no more
+-- than the places, and fewer where a place holds none of them.
 use Prim.Native.Nat.{ℕ, _+_, _≤_, _<_}
 use mathlib.Core.Path.{_≡_, sym, ap, _∙_}
 use mathlib.Core.Logic.{_≢_, inl, inr}

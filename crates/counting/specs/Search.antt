@@ -1,4 +1,5 @@
--- Bounded search: of the numbers 0 .. k - 1 each has one property, or one of them has another. A proof by cases over all bases needs no axiom so.
+-- Bounded search: of the numbers 0 .. k - 1 each has one property, or one of them has
+-- another. A proof by cases over all bases needs no axiom so.
 use Prim.Native.Nat.{ℕ, zero, suc, _<_}
 use mathlib.Core.Path.{_≡_}
 use mathlib.Core.Logic.{_≢_, _⊎_, inl, inr}

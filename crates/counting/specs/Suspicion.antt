@@ -1,5 +1,5 @@
--- Two symmetric tables, faulty links and suspect pairs, where one name is false and one is missing. Each member but three adds to both sums of degrees,
--- so that suspect pairs and faulty links together are at least n - 1.
+-- Two symmetric tables, faulty links and suspect pairs, where one name is false and one is missing. Each member but three adds to both sums
+-- of degrees, so that suspect pairs and faulty links together are at least n - 1.
 use Prim.Native.Nat.{ℕ, _+_, _*_, _≤_, _<_}
 use mathlib.Core.Path.{_≡_, sym, ap, _∙_}
 use mathlib.Core.Logic.{_≢_}

@@ -31,7 +31,7 @@ pub(crate) fn on_announce(base: Base, i: usize, g: u32, out: &mut [u8]) -> Step
     link.announce = g;
     let mut next = base;
     next.links[i] = link;
-    let first = say_one(2, g, out);
+    let first = say_one(base.n, g, out);
     let checked = prime_check(next, &mut out[first..]);
     let after = checked.base;
     accepted(after, first, checked.length)

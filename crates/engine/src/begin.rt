@@ -1,5 +1,7 @@
 // The start of an idle base, alone and before its first message.
 use answers::accepted;
+use frame::kind::ANNOUNCE;
+use frame::kind::VERIFY;
 use protocol::Base;
 use protocol::Step;
 use writer::put_two;
@@ -14,7 +16,7 @@ pub(crate) fn begin(base: Base, out: &mut [u8]) -> Step
     ensures { λ r. ⌜ (r ≡ stepOf (begins base)) × (now (out .exit) ≡ outputOf (begins base) (now (out .entry))) ⌝ }
 {
     let own = [base.own];
-    let two = put_two(1, 2, &own, out);
+    let two = put_two(ANNOUNCE, VERIFY, base.n, &own, out);
     let mut next = base;
     next.state = 1;
     accepted(next, two.front, two.next)

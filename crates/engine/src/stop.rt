@@ -4,7 +4,7 @@ use checks::is_prime;
 use checks::is_secondary;
 use limits::MOST_BASES;
 use protocol::Base;
-use roster::certified_sorted;
+use sorting::certified_sorted;
 ghost use Prim.Native.Nat.{_≤_};
 ghost use mathlib.Core.Path.{_≡_};
 ghost use mathlib.Core.List.{[]};

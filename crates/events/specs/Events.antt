@@ -26,7 +26,7 @@ marks (forge a b bytes room) v = v
 
 -- "An event that is turned down, by 16 to 18 or by the base's call, changes nothing"
 unfoldable pub after : Net → Event → Net
-after w e = choose (eqb (refusal (faultyOf w) (shown w) e) 0) (withNode w (at e) (marks e (Nodes.after (nodeAt w (at e)) (call (shown w) e)))) w
+after w e = choose (eqb (refusal (faultyOf w) (shown w) e) 0) (withNode w (at e) (marks e (Nodes.nodeAfter (nodeAt w (at e)) (call (shown w) e)))) w
 
 -- the net after an event, beside the number by which a line of a schedule is refused: a burst that the base's call turns down leaves the schedule running
 pub record Moved : Type 0 where
@@ -52,10 +52,10 @@ unfoldable pub carriedTo : Node → Node → List Nets.Pair → ℕ → ℕ → 
 carriedTo v u faulty a b k =
     let n = carryRefusal v u faulty a b k in
     let d = carryCall v u a b k in
-    record { refusal = n; node = choose (eqb (first n (callRefusal (d .answer))) 0) (marked (Nodes.after u d) a k) u }
+    record { refusal = n; node = choose (eqb (first n (callRefusal (d .answer))) 0) (marked (Nodes.nodeAfter u d) a k) u }
 
 -- a forgery: a call that is turned down leaves the receiver as it was
 unfoldable pub forgedTo : Node → List Nets.Pair → ℕ → ℕ → List ℕ → Reached
 forgedTo u faulty a b bytes =
     choose (good faulty a b) (record { refusal = 18; node = u })
-    (record { refusal = 0; node = Nodes.after u (arrival (u .base) (linkTo b a) bytes outputRoom) })
+    (record { refusal = 0; node = Nodes.nodeAfter u (arrival (u .base) (linkTo b a) bytes outputRoom) })

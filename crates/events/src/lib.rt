@@ -1,7 +1,5 @@
 // A carry and a forgery, each on the nodes that it names. What is turned down, by 16 to 18 or by the base's call, leaves the base that it would reach
 // as it was. A start is the call alone (crate `calls`). specs/Stands.antt has what these do to the net.
-use calls::hear;
-use calls::hear_frame;
 use net::Faulty;
 use net::links::is_good;
 use node::Node;
@@ -9,6 +7,8 @@ use node::log::broadcast;
 use node::log::broadcasts;
 use node::marks::heard;
 use node::marks::mark;
+use node_calls::hear;
+use node_calls::hear_frame;
 use numbering::link_to;
 use reader::Reading;
 use reader::read;

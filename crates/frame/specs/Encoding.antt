@@ -1,7 +1,8 @@
--- The bytes of a message (document 01, "Frames, read from the end"): "The body comes first, then a trailer of four bytes: kind (1 byte), count of
--- identifiers (1 byte), back distance (2 bytes). Numbers go high byte first." "Identifiers take four bytes." "Frames are written without preamble."
+-- The bytes of a message (document 01, "Frames, read from the end"): "The body comes first, then a trailer of four bytes: kind (1 byte),
+-- count of identifiers (1 byte), back distance (2 bytes). Numbers go high byte first." "Identifiers take four bytes." "Frames are written
+-- without preamble."
 use mathlib.Core.List.{List, [], _∷_, _++_}
-use Prim.Native.Nat.{ℕ, _+_, _*_, _/_, _%_}
+use Prim.Native.Nat.{ℕ, _+_, _/_, _%_}
 use lib.ListN.{length, drop}
 use Rattle.limits.specs.Limits.{frameBytes}
 use Rattle.frame.specs.Message.{Message, kindOf, idsOf}

@@ -35,12 +35,12 @@ idsOf (verifyFinal v) = v
 unfoldable pub holdsOne : ℕ → Bool
 holdsOne kind = or (eqb kind 1) (eqb kind 2)
 
-unfoldable pub holdsList : ℕ → Bool
-holdsList kind = or (eqb kind 3) (eqb kind 4)
+unfoldable pub holdsAll : ℕ → Bool
+holdsAll kind = or (eqb kind 3) (eqb kind 4)
 
 -- number 8 asks whether "the kind is not 1 to 4"
 unfoldable pub known : ℕ → Bool
-known kind = or (holdsOne kind) (holdsList kind)
+known kind = or (holdsOne kind) (holdsAll kind)
 
 -- the count of identifiers that a known kind holds in a net of n bases
 unfoldable pub expected : ℕ → ℕ → ℕ
@@ -49,6 +49,10 @@ expected kind n = choose (holdsOne kind) 1 n
 -- the count of identifiers and the frame's length that a kind has in a net of n bases
 unfoldable pub shapeOf : ℕ → ℕ → Shape
 shapeOf kind n = choose (known kind) (Known (expected kind n) (frameBytes (expected kind n))) Unknown
+
+-- the frame's length alone; 0 for a kind that there is not
+unfoldable pub lengthOf : ℕ → ℕ → ℕ
+lengthOf kind n = choose (known kind) (frameBytes (expected kind n)) 0
 
 -- A valid message: "Kinds 1 and 2 hold one identifier; 3 and 4 hold n, strictly ascending." "An identifier is a 32-bit number above zero."
 pub record Valid (n : ℕ) (m : Message) : Type 0 where

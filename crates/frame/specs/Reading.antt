@@ -50,16 +50,27 @@ idsIn s = identifiers (countByte s) (bodyOf s)
 
 -- ---- numbers by which a burst is turned down, in checking order; 0 for none. Number 1 comes before them.
 -- 7. The burst is shorter than 8 or longer than 132 bytes.
+unfoldable pub lengthRefusal : List ℕ → ℕ
+lengthRefusal s = choose (or (ltb (length s) shortestBurst) (ltb longestBurst (length s))) 7 0
+
 -- 8. The kind is not 1 to 4.
 -- 9. The count is not 1 for kinds 1 and 2, or not n for 3 and 4.
+unfoldable pub kindRefusal : ℕ → ℕ → ℕ → ℕ
+kindRefusal n kind count =
+    choose (not (known kind)) 8
+    (choose (not (eqb count (expected kind n))) 9
+    0)
+
 -- 10. The back distance is not 4 × count + 4, or exceeds the burst.
+unfoldable pub distanceRefusal : List ℕ → ℕ
+distanceRefusal s = choose (or (not (eqb (backDistance s) (frameBytes (countByte s)))) (ltb (length s) (backDistance s))) 10 0
+
+-- 7 to 10, of the burst's length and its trailer
 unfoldable pub trailerRefusal : ℕ → List ℕ → ℕ
 trailerRefusal n s =
-    choose (or (ltb (length s) shortestBurst) (ltb longestBurst (length s))) 7
-    (choose (not (known (kindByte s))) 8
-    (choose (not (eqb (countByte s) (expected (kindByte s) n))) 9
-    (choose (or (not (eqb (backDistance s) (frameBytes (countByte s)))) (ltb (length s) (backDistance s))) 10
-    0)))
+    first (lengthRefusal s)
+    (first (kindRefusal n (kindByte s) (countByte s))
+    (distanceRefusal s))
 
 -- 11. An identifier in the body is zero.
 -- 12. A list is not strictly ascending.

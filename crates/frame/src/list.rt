@@ -1,4 +1,5 @@
 // Numbers 11 and 12: the identifiers of a message.
+use limits::refusal;
 use lists::ascends;
 use lists::none_zero;
 ghost use mathlib.Core.Path.{_≡_};
@@ -8,10 +9,10 @@ pub fn list_refusal(ids: &[u32]) -> u8
     ensures { λ r. ⌜ r ≡ listRefusal (now (ids .entry)) ⌝ }
 {
     if !none_zero(ids, ids.len()) {
-        return 11;
+        return refusal::ZERO_IDENTIFIER;
     }
     if !ascends(ids, ids.len()) {
-        return 12;
+        return refusal::NOT_ASCENDING;
     }
     0
 }

@@ -1,24 +1,31 @@
 // The parts of a line of vectors.
+use limits::LIST_ROOM;
+use limits::LONGEST_BURST;
 ghost use Prim.Native.Nat.{_≤_};
 ghost use lib.ListN.{length};
 
-pub struct Decimal {
-    pub value: usize,
-    pub next: usize,
+// Room for more than a burst may have, and for more identifiers than a list.
+pub(crate) const BYTES: usize = 2 * LONGEST_BURST;
+
+pub(crate) const IDENTIFIERS: usize = 2 * LIST_ROOM;
+
+pub(crate) struct Decimal {
+    pub(crate) value: usize,
+    pub(crate) next: usize,
 }
 
-pub struct Burst {
-    pub len: usize,
-    pub bytes: [u8; 160],
+pub(crate) struct HexBytes {
+    pub(crate) len: usize,
+    pub(crate) bytes: [u8; BYTES],
 }
 
-pub struct Ids {
-    pub len: usize,
-    pub list: [u32; 18],
+pub(crate) struct Ids {
+    pub(crate) len: usize,
+    pub(crate) list: [u32; IDENTIFIERS],
 }
 
 // Where the line from at on ends.
-pub fn end(text: &[u8], at: usize) -> usize
+pub(crate) fn end(text: &[u8], at: usize) -> usize
     requires { ⌜ at ≤ length (now text) ⌝ }
     ensures { λ r. ⌜ (at ≤ r) × (r ≤ length (now (text .entry))) ⌝ }
 {
@@ -32,7 +39,7 @@ pub fn end(text: &[u8], at: usize) -> usize
     i
 }
 
-pub fn letter(text: &[u8]) -> u8 {
+pub(crate) fn letter(text: &[u8]) -> u8 {
     if text.len() == 0 {
         return 0;
     }
@@ -58,7 +65,7 @@ fn with_digit(value: usize, d: usize) -> usize {
 }
 
 // The decimal number from at on, and the place past the space behind it.
-pub fn number(text: &[u8], at: usize) -> Decimal {
+pub(crate) fn number(text: &[u8], at: usize) -> Decimal {
     let mut value: usize = 0;
     let mut i = at;
     while i < text.len() {
@@ -72,29 +79,29 @@ pub fn number(text: &[u8], at: usize) -> Decimal {
     Decimal { value, next: i }
 }
 
-pub fn hex(text: &[u8], at: usize) -> Burst {
-    let mut bytes = [0u8; 160];
+pub(crate) fn hex(text: &[u8], at: usize) -> HexBytes {
+    let mut bytes = [0u8; BYTES];
     let mut i = at;
     let mut len: usize = 0;
-    while len < 160 {
+    while len < BYTES {
         if text.len() <= i {
-            return Burst { len, bytes };
+            return HexBytes { len, bytes };
         }
         if text.len() - i < 2 {
-            return Burst { len, bytes };
+            return HexBytes { len, bytes };
         }
         bytes[len] = (digit(text[i]) * 16 % 256 + digit(text[i + 1]) % 16) as u8;
         i += 2;
         len += 1;
     }
-    Burst { len, bytes }
+    HexBytes { len, bytes }
 }
 
-pub fn identifiers(text: &[u8], at: usize) -> Ids {
-    let mut list = [0u32; 18];
+pub(crate) fn identifiers(text: &[u8], at: usize) -> Ids {
+    let mut list = [0u32; IDENTIFIERS];
     let mut place = at;
     let mut len: usize = 0;
-    while len < 18 {
+    while len < IDENTIFIERS {
         if place >= text.len() {
             return Ids { len, list };
         }
@@ -106,18 +113,18 @@ pub fn identifiers(text: &[u8], at: usize) -> Ids {
     Ids { len, list }
 }
 
-pub fn byte(x: usize) -> u8 {
+pub(crate) fn byte(x: usize) -> u8 {
     (x % 256) as u8
 }
 
-pub fn front(s: &[u8], k: usize) -> &[u8] {
+pub(crate) fn front(s: &[u8], k: usize) -> &[u8] {
     if k <= s.len() { &s[..k] } else { s }
 }
 
-pub fn first(s: &[u32], k: usize) -> &[u32] {
+pub(crate) fn first(s: &[u32], k: usize) -> &[u32] {
     if k <= s.len() { &s[..k] } else { s }
 }
 
-pub fn room(s: &mut [u8], k: usize) -> &mut [u8] {
+pub(crate) fn room(s: &mut [u8], k: usize) -> &mut [u8] {
     if k <= s.len() { &mut s[..k] } else { s }
 }

@@ -1,7 +1,7 @@
 // Runs the reader and the writer on the vectors of standard input, a line each, and prints what they answer:
 //     r N HEX                  a burst read in a net of N bases: the check's number, the body, the reading
 //     w N KIND ROOM ID ..      a message written into an output of ROOM bytes, each 0xee before
-//     t KIND NEXT ROOM ID ..   two frames of the same identifiers
+//     t N KIND NEXT ROOM ID .. two frames of the same identifiers
 // Any other line is printed as it is. The vectors and the file stdout were laid out by hand from document 01.
 mod line;
 mod show;
@@ -42,7 +42,7 @@ fn written(text: &[u8]) {
     let room = line::number(text, kind.next);
     let ids = line::identifiers(text, room.next);
     let list = ids.list;
-    let mut output = [0xeeu8; 160];
+    let mut output = [0xeeu8; line::BYTES];
     show::written(
         n.value,
         line::byte(kind.value),
@@ -52,15 +52,17 @@ fn written(text: &[u8]) {
 }
 
 fn two(text: &[u8]) {
-    let kind = line::number(text, 2);
+    let n = line::number(text, 2);
+    let kind = line::number(text, n.next);
     let next = line::number(text, kind.next);
     let room = line::number(text, next.next);
     let ids = line::identifiers(text, room.next);
     let list = ids.list;
-    let mut output = [0xeeu8; 160];
+    let mut output = [0xeeu8; line::BYTES];
     show::two(
         line::byte(kind.value),
         line::byte(next.value),
+        line::byte(n.value),
         line::first(&list, ids.len),
         line::room(&mut output, room.value),
     );

@@ -1,8 +1,9 @@
 // What a call answers, a line each.
+use limits::MOST_BASES;
 use reader::Reading;
 use writer::Written;
 
-pub fn text(s: &[u8]) {
+pub(crate) fn text(s: &[u8]) {
     io::write_all(1, s);
     line_end();
 }
@@ -43,9 +44,9 @@ fn space() {
     io::write_all(1, b" ");
 }
 
-fn numbers(ids: [u32; 16], count: usize) {
+fn numbers(ids: [u32; MOST_BASES], count: usize) {
     let mut i: usize = 0;
-    while i < 16 {
+    while i < MOST_BASES {
         if count <= i {
             return;
         }
@@ -56,7 +57,7 @@ fn numbers(ids: [u32; 16], count: usize) {
 }
 
 // The number of the check, the body, and the reading, of a burst in a net of n bases.
-pub fn reading(n: usize, burst: &[u8]) {
+pub(crate) fn reading(n: usize, burst: &[u8]) {
     let number = reader::check(n, burst);
     let body = reader::body(n, burst);
     io::print_decimal(1, wide(number));
@@ -73,7 +74,7 @@ pub fn reading(n: usize, burst: &[u8]) {
 }
 
 // The answer of a write, and the output after it.
-pub fn written(n: usize, kind: u8, ids: &[u32], output: &mut [u8]) {
+pub(crate) fn written(n: usize, kind: u8, ids: &[u32], output: &mut [u8]) {
     match writer::write(n, kind, ids, output) {
         Written::Length(length) => labelled(b"length ", length as u64),
         Written::Refused(r) => labelled(b"refused ", wide(r)),
@@ -83,8 +84,8 @@ pub fn written(n: usize, kind: u8, ids: &[u32], output: &mut [u8]) {
 }
 
 // The lengths of two frames, and the output after them.
-pub fn two(kind: u8, next: u8, ids: &[u32], output: &mut [u8]) {
-    let lengths = writer::put_two(kind, next, ids, output);
+pub(crate) fn two(kind: u8, next: u8, n: u8, ids: &[u32], output: &mut [u8]) {
+    let lengths = writer::put_two(kind, next, n, ids, output);
     labelled(b"lengths ", lengths.front as u64);
     labelled(b" ", lengths.next as u64);
     bytes(output);

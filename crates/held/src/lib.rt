@@ -39,7 +39,7 @@ pub fn is_full(n: u8, link: Link) -> bool
 }
 
 // Whether a vector message of that kind with the first n identifiers of v is held.
-pub fn holds_vector(n: u8, kind: u8, link: Link, v: [u32; MOST_BASES]) -> bool
+pub fn holds_vector(n: u8, kind: u16, link: Link, v: [u32; MOST_BASES]) -> bool
     ensures { λ r. ⌜ r ≡ holdsVector n kind link (take n v) ⌝ }
 {
     if link.held != kind {

@@ -3,14 +3,14 @@ use crate::figures;
 use crate::frames::broadcasts;
 use crate::reason;
 use crate::say;
+use c_answers::CallAnswer;
+use c_answers::outcome_numbers;
+use c_answers::read_numbers;
 use engine::arrival::arrive;
 use engine::start::start;
 use leader::leader_of;
 use limits::OUTPUT_ROOM;
 use node::Node;
-use numbers::Answer;
-use numbers::outcome_numbers;
-use numbers::read_numbers;
 use protocol::Base;
 
 // The list and the leader of a base that stops.
@@ -28,7 +28,7 @@ fn stop(b: u8, base: Base) {
 }
 
 // The check that follows an accepted message, and the stop that may follow the check.
-fn checked(b: u8, after: Base, made: usize, answer: Answer, burst: &[u8], frames: &[u8]) {
+fn checked(b: u8, after: Base, made: usize, answer: CallAnswer, burst: &[u8], frames: &[u8]) {
     let taken = read_numbers(after.n as usize, burst);
     let list = taken.ids;
     if taken.kind < 3 {

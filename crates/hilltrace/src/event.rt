@@ -18,7 +18,7 @@ fn started(s: &[u8], walk: Walk, b: u8, next: usize) -> Walk {
     let node = node_at(net, b);
     show_line(s, walk, next);
     call::start_call(b, node);
-    let told = calls::start(node);
+    let told = node_calls::start(node);
     if told.refusal != 0 {
         return onward(walk, net, next);
     }

@@ -2,7 +2,7 @@
 use crate::parts::part;
 use crate::parts::plus;
 use crate::say;
-use numbers::Answer;
+use c_answers::CallAnswer;
 use protocol::Base;
 
 // A broadcast of base b, by its number.
@@ -34,7 +34,7 @@ pub(crate) fn broadcasts(
     b: u8,
     base: Base,
     made: usize,
-    answer: Answer,
+    answer: CallAnswer,
     last: bool,
     frames: &[u8],
 ) {

@@ -1,6 +1,6 @@
 // Pieces of the trace, written to standard output as they come.
+use c_answers::read_numbers;
 use limits::MOST_BASES;
-use numbers::read_numbers;
 
 pub(crate) fn text(words: &[u8]) {
     io::write_all(1, words);

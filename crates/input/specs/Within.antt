@@ -4,6 +4,6 @@ use Rattle.input.specs.declared.Input.{Input}
 use Rattle.input.specs.declared.Input.the-variants.{Read, Failed}
 
 -- no more bytes than the buffer has
-abbrev pub Within : ℕ → Input → Type 0
-Within room Failed = Unit {0}
-Within room (Read count) = count ≤ room
+abbrev pub ReadWithin : ℕ → Input → Type 0
+ReadWithin room Failed = Unit {0}
+ReadWithin room (Read count) = count ≤ room

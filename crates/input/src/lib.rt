@@ -2,7 +2,7 @@
 use libc::STDIN_FILENO;
 ghost use Prim.Native.Nat.{_≤_};
 ghost use lib.ListN.{length};
-ghost use Rattle.input.specs.Within.{Within};
+ghost use Rattle.input.specs.Within.{ReadWithin};
 
 // How many bytes were read, at the front of a buffer.
 pub enum Input {
@@ -13,7 +13,7 @@ pub enum Input {
 // One read behind the bytes that are there already. The input has ended where their number stays.
 fn read_more(buffer: &mut [u8], done: usize) -> Input
     requires { ⌜ done ≤ length (now buffer) ⌝ }
-    ensures { λ r. ⌜ Within (length (now (buffer .entry))) r ⌝ }
+    ensures { λ r. ⌜ ReadWithin (length (now (buffer .entry))) r ⌝ }
 {
     let got = libc::read(STDIN_FILENO, &mut buffer[done..]);
     if got < 0 {
@@ -24,7 +24,7 @@ fn read_more(buffer: &mut [u8], done: usize) -> Input
 
 // Reads until the buffer is full or the input ends: every read but the last brings a byte at least.
 pub fn read_input(buffer: &mut [u8]) -> Input
-    ensures { λ r. ⌜ Within (length (now (buffer .entry))) r ⌝ }
+    ensures { λ r. ⌜ ReadWithin (length (now (buffer .entry))) r ⌝ }
 {
     let mut done: usize = 0;
     let mut turns: usize = 0;

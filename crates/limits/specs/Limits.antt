@@ -38,6 +38,10 @@ shortestBurst = frameBytes 1
 abbrev pub longestBurst : ℕ
 longestBurst = longestFrame + 64
 
+-- "`forge a b hex` (a burst to b as if from a, 0 to 132 bytes": what a line has room for, whatever a base turns down ("The replay program")
+abbrev pub longestForgery : ℕ
+longestForgery = 132
+
 -- "A schedule exceeds 65,536 bytes" (number 13)
 abbrev pub longestSchedule : ℕ
 longestSchedule = 65536

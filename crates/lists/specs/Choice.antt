@@ -16,6 +16,7 @@ unfoldable pub or : Bool → Bool → Bool
 or true b = true
 or false b = b
 
--- Numbers by which a call is turned down, in checking order: the number of the first check, or that of the next where the first gives none (0).
+-- Numbers by which a call is turned down, in checking order: the number of the first
+-- check, or that of the next where the first gives none (0).
 unfoldable pub first : ℕ → ℕ → ℕ
 first a b = choose (eqb a 0) b a

@@ -8,7 +8,7 @@ use Rattle.protocol.specs.declared.Base.{Base}
 use Rattle.protocol.specs.Sound.{idleBase}
 use Rattle.protocol.specs.Net as Nets
 use Rattle.node.specs.declared.Node.{Node}
-use Rattle.node.specs.Node.{mostBroadcasts, marks, within, emptyFrame, logOf, heardBy}
+use Rattle.node.specs.Node.{mostBroadcasts, markRoom, inRange, emptyFrame, logOf, heardBy}
 use Rattle.net.specs.declared.Pair.{Pair}
 use Rattle.net.specs.declared.Faulty.{Faulty}
 use Rattle.net.specs.declared.Net.{Net}
@@ -17,7 +17,7 @@ pub mod Pairs
 -- ---- the bases
 -- an idle base without an identifier, with no broadcast and no carry
 unfoldable pub emptyNode : ℕ → ℕ → Node
-emptyNode n t = record { base = idleBase n t 0; count = 0; frames = replicate mostBroadcasts emptyFrame; heard = replicate marks 0 }
+emptyNode n t = record { base = idleBase n t 0; count = 0; frames = replicate mostBroadcasts emptyFrame; heard = replicate markRoom 0 }
 
 -- what is read past the end of an array
 abbrev pub noBase : Base
@@ -28,10 +28,10 @@ noNode = record { base = noBase; count = 0; frames = []; heard = [] }
 
 -- base b; for a number that no base has, one that is as at the beginning
 unfoldable pub nodeAt : Net → ℕ → Node
-nodeAt w b = choose (within b mostBases) (getD (w .nodes) (b - 1) noNode) (emptyNode (w .n) (w .t))
+nodeAt w b = choose (inRange b mostBases) (getD (w .nodes) (b - 1) noNode) (emptyNode (w .n) (w .t))
 
 unfoldable pub withNode : Net → ℕ → Node → Net
-withNode w b v = choose (within b mostBases) (record { n = w .n; t = w .t; faulty = w .faulty; nodes = set (w .nodes) (b - 1) v }) w
+withNode w b v = choose (inRange b mostBases) (record { n = w .n; t = w .t; faulty = w .faulty; nodes = set (w .nodes) (b - 1) v }) w
 
 -- "The net's state is one record a base, each base's broadcasts, numbered from 1 in the order written, and the carries made."
 unfoldable pub shown : Net → Nets.Net

@@ -22,12 +22,12 @@ abbrev pub mostBroadcasts : ℕ
 mostBroadcasts = mostBases + 3
 
 -- one mark for each broadcast of each base
-abbrev pub marks : ℕ
-marks = mostBases * mostBroadcasts
+abbrev pub markRoom : ℕ
+markRoom = mostBases * mostBroadcasts
 
 -- x is one of 1 to most
-unfoldable pub within : ℕ → ℕ → Bool
-within x most = and (leb 1 x) (leb x most)
+unfoldable pub inRange : ℕ → ℕ → Bool
+inRange x most = and (leb 1 x) (leb x most)
 
 -- ---- broadcasts
 -- the bytes of a frame
@@ -38,8 +38,8 @@ written f = take (f .len) (f .bytes)
 unfoldable pub logOf : Node → List (List ℕ)
 logOf v = map written (take (v .count) (v .frames))
 
-unfoldable pub frameOf : List ℕ → Frame
-frameOf bytes = record { len = length bytes; bytes = padTo longestFrame bytes }
+unfoldable pub storedFrame : List ℕ → Frame
+storedFrame bytes = record { len = length bytes; bytes = padTo longestFrame bytes }
 
 -- a base's k-th broadcast, and an empty frame for one that was not broadcast
 abbrev pub emptyFrame : Frame
@@ -55,7 +55,7 @@ frameAt v k = choose (ltb (k - 1) (length (logOf v))) (getD (v .frames) (k - 1) 
 -- one broadcast more, while there is room: in a history there always is
 unfoldable pub joined : Node → List ℕ → Node
 joined v bytes =
-    choose (ltb (v .count) mostBroadcasts) (record { base = v .base; count = v .count + 1; frames = set (v .frames) (v .count) (frameOf bytes); heard = v .heard })
+    choose (ltb (v .count) mostBroadcasts) (record { base = v .base; count = v .count + 1; frames = set (v .frames) (v .count) (storedFrame bytes); heard = v .heard })
     v
 
 -- "Frames written join b's broadcasts in their order"
@@ -67,19 +67,19 @@ joinedAll v (bytes ∷ log) = joinedAll (joined v bytes) log
 unfoldable pub withBase : Node → Base → Node
 withBase v b = record { base = b; count = v .count; frames = v .frames; heard = v .heard }
 
--- a base after a call on its record; a call that is turned down changes nothing
-unfoldable pub after : Node → Done → Node
-after v d = joinedAll (withBase v (d .base)) (map encode (d .says))
+-- a base nodeAfter a call on its record; a call that is turned down changes nothing
+unfoldable pub nodeAfter : Node → Done → Node
+nodeAfter v d = joinedAll (withBase v (d .base)) (map encode (d .says))
 
 -- ---- carries
--- the place of the mark of a's k-th broadcast
-unfoldable pub place : ℕ → ℕ → ℕ
-place a k = (a - 1) * mostBroadcasts + (k - 1)
+-- the markPlace of the mark of a's k-th broadcast
+unfoldable pub markPlace : ℕ → ℕ → ℕ
+markPlace a k = (a - 1) * mostBroadcasts + (k - 1)
 
 unfoldable pub heardBy : Node → ℕ → ℕ → Bool
-heardBy v a k = and (within a mostBases) (and (within k mostBroadcasts) (not (eqb (getD (v .heard) (place a k) 0) 0)))
+heardBy v a k = and (inRange a mostBases) (and (inRange k mostBroadcasts) (not (eqb (getD (v .heard) (markPlace a k) 0) 0)))
 
 unfoldable pub marked : Node → ℕ → ℕ → Node
 marked v a k =
-    choose (and (within a mostBases) (within k mostBroadcasts)) (record { base = v .base; count = v .count; frames = v .frames; heard = set (v .heard) (place a k) 1 })
+    choose (and (inRange a mostBases) (inRange k mostBroadcasts)) (record { base = v .base; count = v .count; frames = v .frames; heard = set (v .heard) (markPlace a k) 1 })
     v

@@ -9,16 +9,16 @@ use lib.Seq.{sets}
 use Rattle.lists.specs.Choice.{choose}
 pub mod Laws
 
-unfoldable pub fits : List ℕ → ℕ → List ℕ → Bool
-fits out at text = leb (at + length text) (length out)
+unfoldable pub textFits : List ℕ → ℕ → List ℕ → Bool
+textFits out at text = leb (at + length text) (length out)
 
 -- the place behind the text; a text that does not fit is not written
-unfoldable pub putEnd : List ℕ → ℕ → List ℕ → ℕ
-putEnd out at text = choose (fits out at text) (at + length text) at
+unfoldable pub textEnd : List ℕ → ℕ → List ℕ → ℕ
+textEnd out at text = choose (textFits out at text) (at + length text) at
 
 -- the output with the text at its place, and the rest as it was
-unfoldable pub putOutput : List ℕ → ℕ → List ℕ → List ℕ
-putOutput out at text = choose (fits out at text) (sets out at text) out
+unfoldable pub textOutput : List ℕ → ℕ → List ℕ → List ℕ
+textOutput out at text = choose (textFits out at text) (sets out at text) out
 
 -- that a text was put at a place: `after` is the output and `end` the place behind it
 pub record Put (out : List ℕ) (at : ℕ) (text after : List ℕ) (end : ℕ) : Type 0 where

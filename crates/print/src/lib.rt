@@ -3,13 +3,13 @@ mod decimal;
 
 use crate::decimal::decimal;
 ghost use mathlib.Core.Path.{_≡_};
-ghost use Rattle.print.specs.Put.{putEnd, putOutput};
+ghost use Rattle.print.specs.Put.{textEnd, textOutput};
 ghost use Rattle.print.specs.Decimal.{decimalText};
 
 // A text at a place; the answer is the place behind it.
 pub fn put_text(out: &mut [u8], at: usize, text: &[u8]) -> usize
-    ensures { λ r. ⌜ r ≡ putEnd (now (out .entry)) at (now (text .entry)) ⌝ }
-    ensures { λ r. ⌜ now (out .exit) ≡ putOutput (now (out .entry)) at (now (text .entry)) ⌝ }
+    ensures { λ r. ⌜ r ≡ textEnd (now (out .entry)) at (now (text .entry)) ⌝ }
+    ensures { λ r. ⌜ now (out .exit) ≡ textOutput (now (out .entry)) at (now (text .entry)) ⌝ }
 {
     if out.len() < at {
         return at;
@@ -27,8 +27,8 @@ pub fn put_text(out: &mut [u8], at: usize, text: &[u8]) -> usize
 
 // A number in decimal at a place; the answer is the place behind it.
 pub fn put_decimal(out: &mut [u8], at: usize, v: u64) -> usize
-    ensures { λ r. ⌜ r ≡ putEnd (now (out .entry)) at (decimalText v) ⌝ }
-    ensures { λ r. ⌜ now (out .exit) ≡ putOutput (now (out .entry)) at (decimalText v) ⌝ }
+    ensures { λ r. ⌜ r ≡ textEnd (now (out .entry)) at (decimalText v) ⌝ }
+    ensures { λ r. ⌜ now (out .exit) ≡ textOutput (now (out .entry)) at (decimalText v) ⌝ }
 {
     let digits = decimal(v);
     let bytes = digits.bytes;

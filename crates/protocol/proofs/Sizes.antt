@@ -1,5 +1,5 @@
--- What owning a link or a base tells of the lengths of its arrays: in memory they are those of the types. A proof of a function that is handed a
--- record cites `base-sized` at what it knows of that parameter.
+-- What owning a link or a base tells of the lengths of its arrays: in memory they are those of the types. A proof of a function that is
+-- handed a record cites `base-sized` at what it knows of that parameter.
 use Prim.Native.Nat.{ℕ, zero, suc, _<_}
 use mathlib.Core.Path.{_≡_}
 use mathlib.Core.List.{List, [], _∷_, map}
@@ -20,7 +20,9 @@ use Rattle.protocol.proofs.Base as B
 pub link-sized : (l : Link) (vs : List Val) → Is L.the-row l vs → SizedLink l
 link-sized l vs p = record { verifies = simp length-map at (p .1 .1 .1 .0 .1 .0 .1); list = simp length-map at (p .1 .1 .1 .1 .0 .1 .0 .1) }
 
-links-sized : (ls : List Link) (us : List Val) → shadow (each (L.the-field .row .Denot) (L.the-field .row .own) (map (L.the-field .into) ls) us) → (i : ℕ) (d : Link) → i < length ls → SizedLink (getD ls i d)
+links-sized : (ls : List Link) (us : List Val)
+    → shadow (each (L.the-field .row .Denot) (L.the-field .row .own) (map (L.the-field .into) ls) us) → (i : ℕ) (d : Link) → i < length ls
+    → SizedLink (getD ls i d)
 links-sized [] us p i d h = absurd (omega arith)
 links-sized (l ∷ ls) [] p i d h = absurd p
 links-sized (l ∷ ls) (u ∷ us) p zero d h = link-sized l (u ∷ []) (p .0)

@@ -4,5 +4,6 @@ pub mod Sound
 pub mod Steps
 pub mod Numbering
 pub mod Net
+pub mod Computed
 pub mod Table
 pub mod Agreement

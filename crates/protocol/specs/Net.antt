@@ -1,13 +1,10 @@
 -- "The net over a whole history" (document 01). Bases and broadcasts are numbered from 1.
-use Prim.Native.Nat.{ℕ, suc, _+_, _-_, _≤_}
-use mathlib.Core.Path.{_≡_}
-use mathlib.Core.Logic.{_≢_}
+use Prim.Native.Nat.{ℕ, suc, _+_, _-_}
 use mathlib.Core.Bool.{Bool, true, false, not}
 use mathlib.Core.List.{List, [], _∷_, _++_, map}
 use lib.Dec.{eqb, ltb}
 use lib.ListN.{length, getD}
 use Rattle.lists.specs.Choice.{choose, and, or, first}
-use Rattle.lists.specs.Lists.{Below}
 use Rattle.counting.specs.Sums.{bit, sum}
 use Rattle.frame.specs.Encoding.{encode}
 use Rattle.frame.specs.Reading.{kindByte}
@@ -123,9 +120,11 @@ saysCorrect (frame ∷ log) = or (eqb (kindByte frame) 3) (saysCorrect log)
 unfoldable pub hasStopped : Net → ℕ → Bool
 hasStopped W b = saysCorrect (W .log b)
 
--- "the number of pairs of a broadcast and a base at the other end of a good link from its sender, with no carry of that broadcast to that base yet but refused ones"
+-- "the number of pairs of a broadcast and a base at the other end of a good link from its
+-- sender, with no carry of that broadcast to that base yet but refused ones"
 unfoldable pub waitingFrom : List Pair → Net → ℕ → ℕ → ℕ
-waitingFrom faulty W a b = choose (or (eqb a b) (not (good faulty a b))) 0 (sum (length (W .log a)) (λ i. bit (not (W .carried a b (suc i)))))
+waitingFrom faulty W a b =
+    choose (or (eqb a b) (not (good faulty a b))) 0 (sum (length (W .log a)) (λ i. bit (not (W .carried a b (suc i)))))
 
 unfoldable pub waiting : ℕ → List Pair → Net → ℕ
 waiting n faulty W = sum n (λ a. sum n (λ b. waitingFrom faulty W (suc a) (suc b)))

@@ -1,4 +1,5 @@
--- "Each base numbers its links 1 to n − 1: link k of base b goes to base k if k < b, else to base k + 1." (document 01, "The net and its words")
+-- "Each base numbers its links 1 to n − 1: link k of base b goes to base k if k < b, else
+-- to base k + 1." (document 01, "The net and its words")
 use Prim.Native.Nat.{ℕ, _+_, _-_}
 use lib.Dec.{ltb}
 use Rattle.lists.specs.Choice.{choose}

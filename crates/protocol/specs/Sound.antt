@@ -4,8 +4,8 @@ use mathlib.Core.Bool.{Bool, true, false, not}
 use mathlib.Core.List.{List, []}
 use lib.Dec.{eqb, ltb, leb}
 use lib.ListN.{take, drop, replicate}
-use Rattle.limits.specs.Limits.{mostBases, mostLinks, listRoom, mostFaulty}
-use Rattle.limits.specs.Refusals.{netRefusal}
+use Rattle.limits.specs.Limits.{mostBases, mostLinks, listRoom}
+use Rattle.limits.specs.Refusals.{sizeRefusal, ownRefusal}
 use Rattle.lists.specs.Choice.{choose, and, or, first}
 use Rattle.lists.specs.Lists.{nonzero, ascending, distinct, zeros, padTo}
 use Rattle.counting.specs.Sums.{all}
@@ -36,7 +36,8 @@ unfoldable pub linkSound : ℕ → Link → Bool
 linkSound n l = and (leb (used l) (n + 1)) (and (verifiesSound l) (heldSound n l))
 
 unfoldable pub linkEmpty : Link → Bool
-linkEmpty l = and (eqb (l .announce) 0) (and (eqb (l .«verify_count») 0) (and (zeros (l .verifies)) (and (eqb (l .held) 0) (zeros (l .list)))))
+linkEmpty l =
+    and (eqb (l .announce) 0) (and (eqb (l .«verify_count») 0) (and (zeros (l .verifies)) (and (eqb (l .held) 0) (zeros (l .list)))))
 
 -- a place of the array: a link of the base, or past its n - 1 links and empty
 unfoldable pub placeSound : ℕ → ℕ → Link → Bool
@@ -75,11 +76,7 @@ sound b = and (leb (b .state) 3) (and (leb (b .sent) 1) (and (linksSound b) (and
 -- 2. t is above its limit.
 -- 3. The own identifier is zero.
 unfoldable pub settingRefusal : ℕ → ℕ → ℕ → ℕ
-settingRefusal n t own =
-    first (netRefusal n)
-    (choose (ltb (mostFaulty n) t) 2
-    (choose (eqb own 0) 3
-    0))
+settingRefusal n t own = first (sizeRefusal n t) (ownRefusal own)
 
 -- 4. The record is not sound.
 unfoldable pub recordRefusal : Base → ℕ
@@ -93,4 +90,5 @@ abbrev pub emptyLink : Link
 emptyLink = record { announce = 0; verifies = replicate listRoom 0; list = replicate mostBases 0; «verify_count» = 0; held = 0 }
 
 unfoldable pub idleBase : ℕ → ℕ → ℕ → Base
-idleBase n t own = record { n = n; t = t; state = 0; sent = 0; own = own; «final_list» = replicate mostBases 0; links = replicate mostLinks emptyLink }
+idleBase n t own =
+    record { n = n; t = t; state = 0; sent = 0; own = own; «final_list» = replicate mostBases 0; links = replicate mostLinks emptyLink }

@@ -58,25 +58,42 @@ accepts b says = record { answer = accepted; base = b; says = says }
 
 -- ---- changes of a record
 unfoldable pub withLink : Base → ℕ → Link → Base
-withLink b i l = record { n = b .n; t = b .t; state = b .state; sent = b .sent; own = b .own; «final_list» = b .«final_list»; links = set (b .links) i l }
+withLink b i l = record {
+  n = b .n;
+  t = b .t;
+  state = b .state;
+  sent = b .sent;
+  own = b .own;
+  «final_list» = b .«final_list»;
+  links = set (b .links) i l;
+}
 
 unfoldable pub withSent : Base → Base
 withSent b = record { n = b .n; t = b .t; state = b .state; sent = 1; own = b .own; «final_list» = b .«final_list»; links = b .links }
 
 unfoldable pub withState : Base → ℕ → Base
-withState b state = record { n = b .n; t = b .t; state = state; sent = b .sent; own = b .own; «final_list» = b .«final_list»; links = b .links }
+withState b state =
+    record { n = b .n; t = b .t; state = state; sent = b .sent; own = b .own; «final_list» = b .«final_list»; links = b .links }
 
 unfoldable pub withFinal : Base → List ℕ → Base
-withFinal b v = record { n = b .n; t = b .t; state = b .state; sent = b .sent; own = b .own; «final_list» = padTo mostBases v; links = b .links }
+withFinal b v =
+    record { n = b .n; t = b .t; state = b .state; sent = b .sent; own = b .own; «final_list» = padTo mostBases v; links = b .links }
 
 unfoldable pub withAnnounce : Link → ℕ → Link
 withAnnounce l g = record { announce = g; verifies = l .verifies; list = l .list; «verify_count» = l .«verify_count»; held = l .held }
 
 unfoldable pub withVerify : Link → ℕ → Link
-withVerify l g = record { announce = l .announce; verifies = set (l .verifies) (l .«verify_count») g; list = l .list; «verify_count» = l .«verify_count» + 1; held = l .held }
+withVerify l g = record {
+  announce = l .announce;
+  verifies = set (l .verifies) (l .«verify_count») g;
+  list = l .list;
+  «verify_count» = l .«verify_count» + 1;
+  held = l .held;
+}
 
 unfoldable pub withVector : Link → ℕ → List ℕ → Link
-withVector l kind v = record { announce = l .announce; verifies = l .verifies; list = padTo mostBases v; «verify_count» = l .«verify_count»; held = kind }
+withVector l kind v =
+    record { announce = l .announce; verifies = l .verifies; list = padTo mostBases v; «verify_count» = l .«verify_count»; held = kind }
 
 -- ---- the checks
 -- "n identifiers are certified; their tallies sum to at least n² − 2t; at most t pairs are suspect." The second is put as n² ≤ sum + 2t.
@@ -100,7 +117,8 @@ unfoldable pub secondaryCheck : Base → List ℕ → List Message → Done
 secondaryCheck b v before = choose (secondaryHolds b v) (stops b 3 v before) (accepts b before)
 
 -- ---- an arrival at a running base, on the link at place i
--- "Announce g: discarded if that link has an Announce, if g is certified, or if the link's list is full. Else accepted; Verify g is broadcast; then the prime check."
+-- "Announce g: discarded if that link has an Announce, if g is certified, or if the
+-- link's list is full. Else accepted; Verify g is broadcast; then the prime check."
 unfoldable pub onAnnounce : Base → ℕ → ℕ → Done
 onAnnounce b i g =
     choose (or (announces (linkAt b i)) (or (member g (certified b)) (full (b .n) (linkAt b i)))) (discards b)
@@ -119,7 +137,8 @@ votes b v = and (eqb (b .sent) 0) (leb 2 (correctCount b v))
 unfoldable pub vote : Base → List ℕ → Done
 vote b v = choose (votes b v) (accepts (withSent b) (verifyFinal v ∷ [])) (accepts b [])
 
--- "Correct-Final V: discarded if the link holds any Correct-Final. Else it replaces what the link holds. [the vote] Then the secondary check on V."
+-- "Correct-Final V: discarded if the link holds any Correct-Final. Else it replaces what
+-- the link holds. [the vote] Then the secondary check on V."
 unfoldable pub onCorrectFinal : Base → ℕ → List ℕ → Done
 onCorrectFinal b i v =
     choose (eqb (linkAt b i .held) 3) (discards b)
@@ -175,7 +194,8 @@ unfoldable pub start : Base → ℕ → Done
 start b room = unless (first (recordRefusal b) (outputRefusal room)) b (startStep b)
 
 unfoldable pub arrivalRefusal : Base → ℕ → List ℕ → ℕ → ℕ
-arrivalRefusal b link burst room = first (recordRefusal b) (first (linkRefusal (b .n) link) (first (outputRefusal room) (burstRefusal (b .n) burst)))
+arrivalRefusal b link burst room =
+    first (recordRefusal b) (first (linkRefusal (b .n) link) (first (outputRefusal room) (burstRefusal (b .n) burst)))
 
 unfoldable pub arrival : Base → ℕ → List ℕ → ℕ → Done
 arrival b link burst room = unless (arrivalRefusal b link burst room) b (arrivalStep b (link - 1) (messageOf burst))

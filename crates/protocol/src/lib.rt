@@ -3,7 +3,7 @@ use limits::LIST_ROOM;
 use limits::MOST_BASES;
 use limits::MOST_LINKS;
 
-// What is held of one link.
+// What is held of one link. Every byte belongs to a field, here and in a base: two records that are equal are equal byte for byte.
 #[repr(C)]
 pub struct Link {
     // The one Announce identifier accepted there, or zero.
@@ -12,16 +12,24 @@ pub struct Link {
     pub verifies: [u32; LIST_ROOM],
     // The list of the vector message held there, zeros behind.
     pub list: [u32; MOST_BASES],
-    pub verify_count: u8,
+    pub verify_count: u16,
     // The kind of the vector message held there: 3, 4, or zero for none.
-    pub held: u8,
+    pub held: u16,
 }
+
+// The states of a base. The last two mean stopped.
+pub const IDLE: u8 = 0;
+
+pub const RUNNING: u8 = 1;
+
+pub const PRIME: u8 = 2;
+
+pub const SECONDARY: u8 = 3;
 
 #[repr(C)]
 pub struct Base {
     pub n: u8,
     pub t: u8,
-    // Idle (0), running (1), prime (2) or secondary (3).
     pub state: u8,
     // Whether a Verify-Final was sent: 1, or 0.
     pub sent: u8,

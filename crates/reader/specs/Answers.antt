@@ -1,5 +1,5 @@
 -- What the reader's calls answer (document 01, "Frames, read from the end").
-use mathlib.Core.List.{List, [], _∷_}
+use mathlib.Core.List.{List, []}
 use Prim.Native.Nat.{ℕ, _/_, min}
 use lib.Dec.{eqb}
 use lib.ListN.{length}
@@ -11,7 +11,8 @@ use Rattle.reader.specs.declared.Reading.{Reading}
 use Rattle.reader.specs.declared.Reading.the-variants.{Message, Refused}
 pub mod Laws
 
--- "The reader hands back the body as that very stretch of the burst; for a refused burst it gives an empty stretch": where it starts, and its bytes
+-- "The reader hands back the body as that very stretch of the burst; for a refused burst it gives an empty stretch": where it starts, and
+-- its bytes
 unfoldable pub stretchStart : ℕ → List ℕ → ℕ
 stretchStart n s = choose (eqb (readRefusal n s) 0) (bodyStart s) 0
 

@@ -3,22 +3,28 @@ mod bytes;
 
 use crate::bytes::identifier_at;
 use crate::bytes::wide;
-use frame::kind::Shape;
-use frame::kind::shape_of;
+use frame::kind::kind_refusal;
+use frame::kind::length_of;
 use frame::list::list_refusal;
+use limits::IDENTIFIER_BYTES;
 use limits::LONGEST_BURST;
 use limits::MOST_BASES;
 use limits::SHORTEST_BURST;
+use limits::TRAILER_BYTES;
 use limits::net_refusal;
+use limits::refusal;
 ghost use mathlib.Core.Path.{_≡_};
 ghost use Prim.Native.Nat.{_+_, _≤_};
 ghost use lib.ListN.{length};
-ghost use Rattle.limits.specs.Limits.{mostBases, shortestBurst};
+ghost use Rattle.limits.specs.Limits.{mostBases, frameBytes, shortestBurst};
 ghost use Rattle.frame.specs.Reading.{
+  countByte,
   backDistance,
   bodyStart,
   bodyOf,
   idsIn,
+  lengthRefusal,
+  distanceRefusal,
   trailerRefusal,
   listRefusal,
   readRefusal,
@@ -45,33 +51,50 @@ fn back_distance(burst: &[u8]) -> usize
     wide(burst[len - 2]) * 256 + wide(burst[len - 1])
 }
 
-// Numbers 7 to 10: the burst's length and its trailer.
+// Number 7, 0 for none.
+fn length_refusal(burst: &[u8]) -> u8
+    ensures { λ r. ⌜ r ≡ lengthRefusal (now (burst .entry)) ⌝ }
+{
+    if burst.len() < SHORTEST_BURST {
+        return refusal::BURST;
+    }
+    if LONGEST_BURST < burst.len() {
+        return refusal::BURST;
+    }
+    0
+}
+
+// Number 10 of a burst whose frame has so many bytes, 0 for none.
+fn distance_refusal(burst: &[u8], size: usize) -> u8
+    requires { ⌜ (shortestBurst ≤ length (now burst)) × (size ≡ frameBytes (countByte (now burst))) ⌝ }
+    ensures { λ r. ⌜ r ≡ distanceRefusal (now (burst .entry)) ⌝ }
+{
+    let back = back_distance(burst);
+    if back != size {
+        return refusal::BACK_DISTANCE;
+    }
+    if burst.len() < back {
+        return refusal::BACK_DISTANCE;
+    }
+    0
+}
+
+// Numbers 7 to 10, 0 for none: the burst's length and its trailer.
 fn trailer_refusal(n: usize, burst: &[u8]) -> u8
     requires { ⌜ n ≤ mostBases ⌝ }
     ensures { λ r. ⌜ r ≡ trailerRefusal n (now (burst .entry)) ⌝ }
 {
+    let length = length_refusal(burst);
+    if length != 0 {
+        return length;
+    }
     let len = burst.len();
-    if len < SHORTEST_BURST {
-        return 7;
-    }
-    if LONGEST_BURST < len {
-        return 7;
-    }
     let kind = burst[len - 4];
-    let Shape::Known { count, length } = shape_of(kind, n as u8) else {
-        return 8;
-    };
-    if wide(burst[len - 3]) != count {
-        return 9;
+    let number = kind_refusal(kind, wide(burst[len - 3]), n as u8);
+    if number != 0 {
+        return number;
     }
-    let back = back_distance(burst);
-    if back != length {
-        return 10;
-    }
-    if len < back {
-        return 10;
-    }
-    0
+    distance_refusal(burst, length_of(kind, n as u8))
 }
 
 // The identifiers of a body, four bytes each, with zeros behind them.
@@ -81,10 +104,10 @@ pub fn identifiers(body: &[u8]) -> [u32; MOST_BASES]
     let mut ids = [0u32; MOST_BASES];
     let mut i: usize = 0;
     while i < MOST_BASES {
-        if body.len() < 4 * i + 4 {
+        if body.len() < IDENTIFIER_BYTES * (i + 1) {
             return ids;
         }
-        ids[i] = identifier_at(body, 4 * i);
+        ids[i] = identifier_at(body, IDENTIFIER_BYTES * i);
         i += 1;
     }
     ids
@@ -93,11 +116,12 @@ pub fn identifiers(body: &[u8]) -> [u32; MOST_BASES]
 // The body of a burst whose trailer is right, as that very stretch of the burst.
 fn body_in<'a>(burst: &'a [u8]) -> &'a [u8]
     requires { ⌜ Framed (now burst) ⌝ }
-    ensures { λ r. ⌜ (now r ≡ bodyOf (now (burst .entry))) × ((r .ptr .0 ≡ burst .entry .ptr .0) × (r .ptr .1 ≡ burst .entry .ptr .1 + bodyStart (now (burst .entry)))) ⌝ }
+    ensures { λ r. ⌜ (now r ≡ bodyOf (now (burst .entry)))
+        × ((r .ptr .0 ≡ burst .entry .ptr .0) × (r .ptr .1 ≡ burst .entry .ptr .1 + bodyStart (now (burst .entry)))) ⌝ }
 {
     let len = burst.len();
     let back = back_distance(burst);
-    &burst[len - back..len - 4]
+    &burst[len - back..len - TRAILER_BYTES]
 }
 
 // Numbers 11 and 12, for a burst whose trailer is right.
@@ -127,7 +151,8 @@ pub fn check(n: usize, burst: &[u8]) -> u8
 
 // The body as that very stretch of the burst; an empty stretch, at the burst's beginning, where the burst is turned down.
 pub fn body<'a>(n: usize, burst: &'a [u8]) -> &'a [u8]
-    ensures { λ r. ⌜ (now r ≡ stretch n (now (burst .entry))) × ((r .ptr .0 ≡ burst .entry .ptr .0) × (r .ptr .1 ≡ burst .entry .ptr .1 + stretchStart n (now (burst .entry)))) ⌝ }
+    ensures { λ r. ⌜ (now r ≡ stretch n (now (burst .entry)))
+        × ((r .ptr .0 ≡ burst .entry .ptr .0) × (r .ptr .1 ≡ burst .entry .ptr .1 + stretchStart n (now (burst .entry)))) ⌝ }
 {
     if check(n, burst) != 0 {
         return &burst[0..0];

@@ -4,7 +4,7 @@ use mathlib.Core.Bool.{not}
 use mathlib.Core.List.{List, _++_}
 use lib.Dec.{eqb, ltb, leb}
 use lib.ListN.{length, drop}
-use Rattle.limits.specs.Limits.{outputRoom, longestBurst, longestSchedule}
+use Rattle.limits.specs.Limits.{outputRoom, longestForgery, longestSchedule}
 use Rattle.lists.specs.Choice.{choose}
 use Rattle.text.specs.Hex.{hexBytes}
 use Rattle.lines.specs.declared.event.Line.{Line}
@@ -96,7 +96,7 @@ nextOf Wrong = 0
 abbrev pub HasBytes : List ℕ → Line → Type 0
 HasBytes s (Start b next) = Unit {0}
 HasBytes s (Carry a b k next) = Unit {0}
-HasBytes s (Forge a b at count next) = (count ≤ longestBurst) × (2 * count ≤ length (drop at s))
+HasBytes s (Forge a b at count next) = (count ≤ longestForgery) × (2 * count ≤ length (drop at s))
 HasBytes s Wrong = Unit {0}
 
 unfoldable pub linePlay : List ℕ → Play → Play

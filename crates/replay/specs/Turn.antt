@@ -12,12 +12,12 @@ use Rattle.text.specs.Hex.{hexBytes}
 use Rattle.lines.specs.declared.event.Line.{Line}
 use Rattle.lines.specs.declared.event.Line.the-variants.{Start, Carry, Forge, Wrong}
 use Rattle.lines.specs.Lines.{isBase, eventLine}
-use Rattle.lines.specs.Lines.Laws.{base-range, two-range}
+use Rattle.lines.specs.Lines.Laws.{net-base-range, two-range}
 use Rattle.lines.specs.Lines.Told.{EventTold, event-told}
 use Rattle.protocol.specs.Steps as Steps
 use Rattle.protocol.specs.Net.{Pair, Event, starts, carry, forge, at, eventRefusal}
 use Rattle.node.specs.declared.Node.{Node}
-use Rattle.node.specs.Node.{within}
+use Rattle.node.specs.Node.{inRange}
 use Rattle.node.specs.Node as Nodes
 use Rattle.node.specs.Node.Within.{is-within}
 use Rattle.net.specs.declared.Net.{Net}
@@ -42,11 +42,11 @@ receiverOf Wrong = 0
 
 -- where base b stands
 unfoldable pub placeOf : ℕ → ℕ
-placeOf b = choose (within b mostBases) (b - 1) 0
+placeOf b = choose (inRange b mostBases) (b - 1) 0
 
 -- the base that the line reaches, as the line leaves it, and the number by which the line is turned down
 unfoldable pub reachedBy : List ℕ → Node → Node → List Pair → Line → Reached
-reachedBy s v u faulty (Start b next) = record { refusal = 0; node = Nodes.after u (Steps.start (u .base) outputRoom) }
+reachedBy s v u faulty (Start b next) = record { refusal = 0; node = Nodes.nodeAfter u (Steps.start (u .base) outputRoom) }
 reachedBy s v u faulty (Carry a b k next) = carriedTo v u faulty a b k
 reachedBy s v u faulty (Forge a b at count next) = forgedTo u faulty a b (hexBytes count (drop at s))
 reachedBy s v u faulty Wrong = record { refusal = 13; node = u }
@@ -59,20 +59,20 @@ abbrev standing : Net → ℕ → Node
 standing w b = getD (w .nodes) (placeOf b) noNode
 
 module _ (w : Net) (few : w .n ≤ mostBases) where
-  in-net : (b : ℕ) → isBase (w .n) b ≡ true → within b mostBases ≡ true
-  in-net b e = let r = base-range (w .n) b e in is-within (r .0) (omega arith)
+  in-net : (b : ℕ) → isBase (w .n) b ≡ true → inRange b mostBases ≡ true
+  in-net b e = let r = net-base-range (w .n) b e in is-within (r .0) (omega arith)
 
-  place-is : (b : ℕ) → within b mostBases ≡ true → placeOf b ≡ b - 1
+  place-is : (b : ℕ) → inRange b mostBases ≡ true → placeOf b ≡ b - 1
   unfolding placeOf
   place-is b B = choose-yes _ _ B
 
-  stands-there : (b : ℕ) → within b mostBases ≡ true → standing w b ≡ nodeAt w b
+  stands-there : (b : ℕ) → inRange b mostBases ≡ true → standing w b ≡ nodeAt w b
   stands-there b B = ap (λ (i : ℕ). getD (w .nodes) i noNode) (place-is b B) ∙ (unfold nodeAt in sym (choose-yes (getD (w .nodes) (b - 1) noNode) (emptyNode (w .n) (w .t)) B))
 
-  stored-there : (b : ℕ) (v : Node) → within b mostBases ≡ true → stored w (placeOf b) v ≡ withNode w b v
+  stored-there : (b : ℕ) (v : Node) → inRange b mostBases ≡ true → stored w (placeOf b) v ≡ withNode w b v
   stored-there b v B = ap (λ (i : ℕ). stored w i v) (place-is b B) ∙ (unfold withNode in sym (choose-yes (stored w (b - 1) v) w B))
 
-  event-is : (e : Event) {r : Reached} → within (at e) mostBases ≡ true → r ≡ record { refusal = eventRefusal (faultyOf w) (shown w) e; node = reachedNode w e }
+  event-is : (e : Event) {r : Reached} → inRange (at e) mostBases ≡ true → r ≡ record { refusal = eventRefusal (faultyOf w) (shown w) e; node = reachedNode w e }
       → record { refusal = r .refusal; net = stored w (placeOf (at e)) (r .node) } ≡ moved w e
   unfolding moved
   event-is e B q = rw q (ap (λ (x : Net). record { refusal = eventRefusal (faultyOf w) (shown w) e; net = x }) (stored-there (at e) (reachedNode w e) B ∙ reached-stored w e))

@@ -10,7 +10,7 @@ use text::hex::hex_bytes;
 ghost use mathlib.Core.Path.{_≡_};
 ghost use Prim.Native.Nat.{_≤_, _<_, _*_};
 ghost use lib.ListN.{length, drop};
-ghost use Rattle.limits.specs.Limits.{mostBases, longestBurst};
+ghost use Rattle.limits.specs.Limits.{mostBases, longestForgery};
 ghost use Rattle.text.specs.Hex.{hexBytes};
 ghost use Rattle.net.specs.Shown.{pairsOf};
 ghost use Rattle.events.specs.Events.{forgedTo};
@@ -27,7 +27,7 @@ fn forge_bytes(
     at: usize,
     count: usize,
 ) -> Reached
-    requires { ⌜ (count ≤ longestBurst) × (2 * count ≤ length (drop at (now s))) ⌝ }
+    requires { ⌜ (count ≤ longestForgery) × (2 * count ≤ length (drop at (now s))) ⌝ }
     ensures { λ r. ⌜ r ≡ forgedTo receiver (pairsOf faulty) a b (hexBytes count (drop at (now (s .entry)))) ⌝ }
 {
     let bytes = hex_bytes(s, at, count);
@@ -41,7 +41,7 @@ fn happen(s: &[u8], sender: Node, receiver: Node, faulty: Faulty, line: Line) ->
 {
     match line {
         Line::Start { base: _, next: _ } => {
-            let told = calls::start(receiver);
+            let told = node_calls::start(receiver);
             let node = told.node;
             Reached { refusal: 0, node }
         }

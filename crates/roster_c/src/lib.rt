@@ -1,13 +1,13 @@
 // The calls as C sees them (include/roster.h): records lent by pointer, slices as pointer and length, answers as numbers.
+use c_answers::CallAnswer;
+use c_answers::LeaderAnswer;
+use c_answers::ReadAnswer;
+use c_answers::WriteAnswer;
+use c_answers::leader_numbers;
+use c_answers::outcome_numbers;
+use c_answers::read_numbers;
+use c_answers::written_numbers;
 use limits::MOST_BASES;
-use numbers::Answer;
-use numbers::Named;
-use numbers::Put;
-use numbers::Taken;
-use numbers::leader_numbers;
-use numbers::outcome_numbers;
-use numbers::read_numbers;
-use numbers::written_numbers;
 use protocol::Base;
 use soundness::idle::Made;
 ghost use mathlib.Core.Path.{_≡_};
@@ -17,7 +17,7 @@ ghost use Rattle.reader.specs.Answers.{readingOf, stretch, idArray};
 ghost use Rattle.protocol.specs.Steps.{arrival, start, stepOf, outputOf, leaderAnswer};
 ghost use Rattle.soundness.specs.Made.{madeOf};
 ghost use Rattle.schedule.specs.Report.{replayLength, replayOutput};
-ghost use Rattle.numbers.specs.Numbers.{outcomeNumbers, leaderNumbers, writtenNumbers, readNumbers};
+ghost use Rattle.c_answers.specs.Numbers.{outcomeNumbers, leaderNumbers, writtenNumbers, readNumbers};
 
 // An idle record from n, t and the own identifier. Turned down by 1 to 3.
 #[no_mangle]
@@ -29,10 +29,10 @@ pub extern "C" fn roster_idle(n: usize, t: usize, own: u32) -> Made
 
 // Starts an idle base. Turned down by 1 to 4 and 6.
 #[no_mangle]
-pub extern "C" fn roster_start(base: &mut Base, out: &mut [u8]) -> Answer
+pub extern "C" fn roster_start(base: &mut Base, out: &mut [u8]) -> CallAnswer
     ensures { λ r. ⌜ (r ≡ outcomeNumbers (stepOf (start (now (base .entry)) (length (now (out .entry)))) .outcome)) × ((now (base .exit) ≡ stepOf (start (now (base .entry)) (length (now (out .entry)))) .base) × (now (out .exit) ≡ outputOf (start (now (base .entry)) (length (now (out .entry)))) (now (out .entry)))) ⌝ }
 {
-    outcome_numbers(entry::start(base, out))
+    outcome_numbers(lent_calls::start(base, out))
 }
 
 // A burst arrives on a link, 1 to n - 1. Turned down by 1 to 12.
@@ -42,23 +42,23 @@ pub extern "C" fn roster_arrive(
     link: usize,
     burst: &[u8],
     out: &mut [u8],
-) -> Answer
+) -> CallAnswer
     ensures { λ r. ⌜ (r ≡ outcomeNumbers (stepOf (arrival (now (base .entry)) link (now (burst .entry)) (length (now (out .entry)))) .outcome)) × ((now (base .exit) ≡ stepOf (arrival (now (base .entry)) link (now (burst .entry)) (length (now (out .entry)))) .base) × (now (out .exit) ≡ outputOf (arrival (now (base .entry)) link (now (burst .entry)) (length (now (out .entry)))) (now (out .entry)))) ⌝ }
 {
-    outcome_numbers(entry::arrive(base, link, burst, out))
+    outcome_numbers(lent_calls::arrive(base, link, burst, out))
 }
 
 // The leader that a stopped base names. Turned down by 1 to 4.
 #[no_mangle]
-pub extern "C" fn roster_leader(base: &mut Base) -> Named
+pub extern "C" fn roster_leader(base: &mut Base) -> LeaderAnswer
     ensures { λ r. ⌜ (r ≡ leaderNumbers (leaderAnswer (now (base .entry)))) × (now (base .exit) ≡ now (base .entry)) ⌝ }
 {
-    leader_numbers(entry::leader(base))
+    leader_numbers(lent_calls::leader(base))
 }
 
 // The message of a burst. Turned down by 1 and 7 to 12.
 #[no_mangle]
-pub extern "C" fn roster_read(n: usize, burst: &[u8]) -> Taken
+pub extern "C" fn roster_read(n: usize, burst: &[u8]) -> ReadAnswer
     ensures { λ r. ⌜ r ≡ readNumbers (readingOf n (now (burst .entry))) (idArray (stretch n (now (burst .entry)))) ⌝ }
 {
     read_numbers(n, burst)
@@ -66,7 +66,7 @@ pub extern "C" fn roster_read(n: usize, burst: &[u8]) -> Taken
 
 // The frame of a message. Turned down by 1, 6, 8, 9, 11 and 12.
 #[no_mangle]
-pub extern "C" fn roster_write(n: usize, kind: u8, ids: &[u32], out: &mut [u8]) -> Put
+pub extern "C" fn roster_write(n: usize, kind: u8, ids: &[u32], out: &mut [u8]) -> WriteAnswer
     ensures { λ r. ⌜ (r ≡ writtenNumbers (writtenOf n kind (now (ids .entry)) (length (now (out .entry))))) × (now (out .exit) ≡ writeOutput n kind (now (ids .entry)) (now (out .entry))) ⌝ }
 {
     written_numbers(writer::write(n, kind, ids, out))

@@ -1,7 +1,9 @@
 // Numbers 1 to 6, in checking order. Each call makes the checks whose data it takes.
 use crate::record::is_sound;
 use limits::OUTPUT_ROOM;
-use limits::net_refusal;
+use limits::own_refusal;
+use limits::refusal;
+use limits::size_refusal;
 use protocol::Base;
 ghost use mathlib.Core.Path.{_≡_};
 ghost use Rattle.lists.specs.Choice.{first};
@@ -13,17 +15,11 @@ ghost use Rattle.soundness.specs.Place.{placeRefusal};
 pub fn setting_refusal(n: usize, t: usize, own: u32) -> u8
     ensures { λ r. ⌜ r ≡ settingRefusal n t own ⌝ }
 {
-    let net = net_refusal(n);
-    if net != 0 {
-        return net;
+    let size = size_refusal(n, t);
+    if size != 0 {
+        return size;
     }
-    if (n - 2) / 2 < t {
-        return 2;
-    }
-    if own == 0 {
-        return 3;
-    }
-    0
+    own_refusal(own)
 }
 
 // Numbers 1 to 4 of a record, 0 for none.
@@ -35,7 +31,7 @@ pub fn record_refusal(base: Base) -> u8
         return setting;
     }
     if !is_sound(base) {
-        return 4;
+        return refusal::RECORD;
     }
     0
 }
@@ -51,7 +47,7 @@ pub fn start_refusal(base: Base, room: usize) -> u8
     if OUTPUT_ROOM <= room {
         return 0;
     }
-    6
+    refusal::OUTPUT
 }
 
 // Numbers 1 to 6 of an arrival, 0 for none.
@@ -63,13 +59,13 @@ pub fn place_refusal(base: Base, link: usize, room: usize) -> u8
         return record;
     }
     if link < 1 {
-        return 5;
+        return refusal::LINK;
     }
     if (base.n as usize) <= link {
-        return 5;
+        return refusal::LINK;
     }
     if room < OUTPUT_ROOM {
-        return 6;
+        return refusal::OUTPUT;
     }
     0
 }

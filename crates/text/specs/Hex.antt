@@ -4,7 +4,7 @@ use mathlib.Core.Bool.{Bool}
 use mathlib.Core.List.{List, [], _∷_}
 use lib.Dec.{eqb, ltb, leb}
 use lib.ListN.{drop}
-use Rattle.limits.specs.Limits.{longestBurst}
+use Rattle.limits.specs.Limits.{longestForgery}
 use Rattle.lists.specs.Choice.{choose, and, or}
 use Rattle.lists.specs.Lists.{padTo}
 use Rattle.text.specs.declared.hex.Hex.{Hex}
@@ -31,13 +31,13 @@ hexFrom (a ∷ (b ∷ rest)) k p =
     choose (eqb a 10) (Bytes k (p + 1))
     (choose (and (isHex a) (isHex b)) (hexFrom rest (k + 1) (p + 2)) Bad)
 
-unfoldable pub atMostBurst : Hex → Hex
-atMostBurst Bad = Bad
-atMostBurst (Bytes k p) = choose (ltb longestBurst k) Bad (Bytes k p)
+unfoldable pub atMostForgery : Hex → Hex
+atMostForgery Bad = Bad
+atMostForgery (Bytes k p) = choose (ltb longestForgery k) Bad (Bytes k p)
 
 -- how many bytes stand at position p, and the position behind their line feed
 unfoldable pub hexAt : List ℕ → ℕ → Hex
-hexAt s p = atMostBurst (hexFrom (drop p s) 0 p)
+hexAt s p = atMostForgery (hexFrom (drop p s) 0 p)
 
 -- the first k bytes
 unfoldable pub hexBytes : ℕ → List ℕ → List ℕ
@@ -46,6 +46,6 @@ hexBytes (suc k) [] = []
 hexBytes (suc k) (a ∷ []) = []
 hexBytes (suc k) (a ∷ (b ∷ rest)) = hexPair a b ∷ hexBytes k rest
 
--- in an array of as many places as a burst may have bytes
+-- in an array of as many places as a line can forge bytes
 unfoldable pub hexArray : List ℕ → ℕ → ℕ → List ℕ
-hexArray s p k = padTo longestBurst (hexBytes (min k longestBurst) (drop p s))
+hexArray s p k = padTo longestForgery (hexBytes (min k longestForgery) (drop p s))

@@ -1,5 +1,5 @@
 // Bytes in hexadecimal, two lower-case digits each, up to a line feed.
-use limits::LONGEST_BURST;
+use limits::LONGEST_FORGERY;
 ghost use mathlib.Core.Path.{_≡_};
 ghost use Prim.Native.Nat.{_<_};
 ghost use lib.ListN.{drop};
@@ -79,27 +79,27 @@ fn hex_from(s: &[u8], at: usize) -> Hex
     Hex::Bad
 }
 
-// The bytes in hexadecimal at a position: as many as a burst may have.
+// The bytes in hexadecimal at a position: as many as a line can forge.
 pub fn hex_at(s: &[u8], at: usize) -> Hex
     ensures { λ r. ⌜ r ≡ hexAt (now (s .entry)) at ⌝ }
 {
     let Hex::Bytes(count, next) = hex_from(s, at) else {
         return Hex::Bad;
     };
-    if LONGEST_BURST < count {
+    if LONGEST_FORGERY < count {
         return Hex::Bad;
     }
     Hex::Bytes(count, next)
 }
 
 // The bytes themselves, so many of them, zeros behind. Bytes stand only where the text has two digits for each.
-pub fn hex_bytes(s: &[u8], at: usize, count: usize) -> [u8; LONGEST_BURST]
+pub fn hex_bytes(s: &[u8], at: usize, count: usize) -> [u8; LONGEST_FORGERY]
     ensures { λ r. ⌜ r ≡ hexArray (now (s .entry)) at count ⌝ }
 {
-    let mut bytes = [0u8; LONGEST_BURST];
+    let mut bytes = [0u8; LONGEST_FORGERY];
     let mut p = at;
     let mut i: usize = 0;
-    while i < LONGEST_BURST {
+    while i < LONGEST_FORGERY {
         if count <= i {
             return bytes;
         }

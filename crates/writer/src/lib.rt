@@ -3,20 +3,23 @@ mod bytes;
 
 use crate::bytes::put_four;
 use crate::bytes::put_identifier;
-use frame::kind::Shape;
-use frame::kind::shape_of;
+use frame::kind::kind_refusal;
+use frame::kind::length_of;
 use frame::list::list_refusal;
-use limits::MOST_BASES;
+use limits::IDENTIFIER_BYTES;
+use limits::TRAILER_BYTES;
 use limits::net_refusal;
+use limits::refusal;
 ghost use mathlib.Core.Path.{_≡_};
-ghost use Prim.Native.Nat.{_≤_};
+ghost use Prim.Native.Nat.{_≤_, _<_};
 ghost use lib.ListN.{length};
-ghost use Rattle.limits.specs.Limits.{mostBases, frameBytes};
+ghost use Rattle.limits.specs.Limits.{frameBytes};
 ghost use Rattle.frame.specs.Encoding.{frameOf, over};
 ghost use Rattle.writer.specs.Writing.{
+  frameFits,
   putLength,
   putOutput,
-  twoLength,
+  twoLengths,
   twoOutput,
   writeRefusal,
   writtenOf,
@@ -30,61 +33,73 @@ pub enum Written {
 }
 
 // The lengths of two frames, one after the other.
-pub struct Two {
+pub struct TwoLengths {
     pub front: usize,
     pub next: usize,
 }
 
-fn put_frame(kind: u8, ids: &[u32], out: &mut [u8]) -> usize
-    requires { ⌜ (length (now ids) ≤ mostBases) × (frameBytes (length (now ids)) ≤ length (now out)) ⌝ }
-    ensures { λ r. ⌜ (r ≡ frameBytes (length (now (ids .entry)))) × (now (out .exit) ≡ over (frameOf kind (now (ids .entry))) (now (out .entry))) ⌝ }
+// A frame of so many bytes, which is its back distance too.
+fn put_frame(kind: u8, size: usize, ids: &[u32], out: &mut [u8])
+    requires { ⌜ (length (now ids) < 256) × ((size ≡ frameBytes (length (now ids))) × (size ≤ length (now out))) ⌝ }
+    ensures { λ r. ⌜ now (out .exit) ≡ over (frameOf kind (now (ids .entry))) (now (out .entry)) ⌝ }
 {
     let count = ids.len();
     let mut i: usize = 0;
     while i < count {
-        put_identifier(out, 4 * i, ids[i]);
+        put_identifier(out, IDENTIFIER_BYTES * i, ids[i]);
         i += 1;
     }
-    let back = 4 * count + 4;
     put_four(
         out,
-        4 * count,
+        size - TRAILER_BYTES,
         kind,
         count as u8,
-        (back / 256 % 256) as u8,
-        (back % 256) as u8,
+        (size / 256 % 256) as u8,
+        (size % 256) as u8,
     );
-    back
 }
 
-// The frame of a kind and its identifiers, where the output has the room for it; the answer is its length, 0 where nothing is written.
-pub fn put(kind: u8, ids: &[u32], out: &mut [u8]) -> usize
-    ensures { λ r. ⌜ (r ≡ putLength (length (now (ids .entry))) (length (now (out .entry)))) × (now (out .exit) ≡ putOutput kind (now (ids .entry)) (now (out .entry))) ⌝ }
+// Whether a frame of a kind with so many identifiers fits in so much room.
+fn frame_fits(kind: u8, n: u8, count: usize, room: usize) -> bool
+    ensures { λ r. ⌜ r ≡ frameFits n kind count room ⌝ }
 {
-    let count = ids.len();
-    if MOST_BASES < count {
-        return 0;
+    if kind_refusal(kind, count, n) != 0 {
+        return false;
     }
-    if out.len() < 4 * count + 4 {
-        return 0;
-    }
-    put_frame(kind, ids, out)
+    length_of(kind, n) <= room
 }
 
-// Two frames of the same identifiers, where the output has the room for both; the second goes into the rest of the output.
-pub fn put_two(kind: u8, next: u8, ids: &[u32], out: &mut [u8]) -> Two
-    ensures { λ r. ⌜ (r .front ≡ twoLength (length (now (ids .entry))) (length (now (out .entry)))) × ((r .next ≡ r .front) × (now (out .exit) ≡ twoOutput kind next (now (ids .entry)) (now (out .entry)))) ⌝ }
+// The frame of a kind and its identifiers in a net of n bases; the answer is its length. Nothing is written, length 0, for a kind that
+// there is not, for a list of another count than the kind holds, and where the output has no room for it.
+pub fn put(kind: u8, n: u8, ids: &[u32], out: &mut [u8]) -> usize
+    ensures { λ r. ⌜ (r ≡ putLength n kind (length (now (ids .entry))) (length (now (out .entry))))
+        × (now (out .exit) ≡ putOutput n kind (now (ids .entry)) (now (out .entry))) ⌝ }
 {
-    let count = ids.len();
-    if MOST_BASES < count {
-        return Two { front: 0, next: 0 };
+    if !frame_fits(kind, n, ids.len(), out.len()) {
+        return 0;
     }
-    if out.len() < 2 * (4 * count + 4) {
-        return Two { front: 0, next: 0 };
+    let size = length_of(kind, n);
+    put_frame(kind, size, ids, out);
+    size
+}
+
+// Two frames of the same identifiers, where both are as `put` asks and the output has the room for both; the second goes into the rest of
+// the output.
+pub fn put_two(kind: u8, next: u8, n: u8, ids: &[u32], out: &mut [u8]) -> TwoLengths
+    ensures { λ r. ⌜ (r ≡ twoLengths n kind next (length (now (ids .entry))) (length (now (out .entry))))
+        × (now (out .exit) ≡ twoOutput n kind next (now (ids .entry)) (now (out .entry))) ⌝ }
+{
+    if !frame_fits(kind, n, ids.len(), out.len()) {
+        return TwoLengths { front: 0, next: 0 };
     }
-    let a = put_frame(kind, ids, out);
-    let b = put_frame(next, ids, &mut out[a..]);
-    Two { front: a, next: b }
+    let front = length_of(kind, n);
+    if !frame_fits(next, n, ids.len(), out.len() - front) {
+        return TwoLengths { front: 0, next: 0 };
+    }
+    let back = length_of(next, n);
+    put_frame(kind, front, ids, out);
+    put_frame(next, back, ids, &mut out[front..]);
+    TwoLengths { front, next: back }
 }
 
 fn write_refusal(n: usize, kind: u8, ids: &[u32], room: usize) -> u8
@@ -94,26 +109,26 @@ fn write_refusal(n: usize, kind: u8, ids: &[u32], room: usize) -> u8
     if net != 0 {
         return net;
     }
-    let Shape::Known { count, length } = shape_of(kind, n as u8) else {
-        return 8;
-    };
-    if room < length {
-        return 6;
+    if room < length_of(kind, n as u8) {
+        return refusal::OUTPUT;
     }
-    if ids.len() != count {
-        return 9;
+    let number = kind_refusal(kind, ids.len(), n as u8);
+    if number != 0 {
+        return number;
     }
     list_refusal(ids)
 }
 
 // The frame of a message, or the number by which it is turned down: 1, 6, 8, 9, 11 or 12. Nothing is written then.
 pub fn write(n: usize, kind: u8, ids: &[u32], out: &mut [u8]) -> Written
-    ensures { λ r. ⌜ (r ≡ writtenOf n kind (now (ids .entry)) (length (now (out .entry)))) × (now (out .exit) ≡ writeOutput n kind (now (ids .entry)) (now (out .entry))) ⌝ }
+    ensures { λ r. ⌜ (r ≡ writtenOf n kind (now (ids .entry)) (length (now (out .entry))))
+        × (now (out .exit) ≡ writeOutput n kind (now (ids .entry)) (now (out .entry))) ⌝ }
 {
     let refusal = write_refusal(n, kind, ids, out.len());
     if refusal != 0 {
         return Written::Refused(refusal);
     }
-    let length = put_frame(kind, ids, out);
-    Written::Length(length)
+    let size = length_of(kind, n as u8);
+    put_frame(kind, size, ids, out);
+    Written::Length(size)
 }

@@ -135,7 +135,7 @@ impl Link {
     }
 
     fn raw(&self) -> RawLink {
-        let mut raw = RawLink { announce: self.announce.unwrap_or(0), verify_count: self.verifies.len() as u8, ..RawLink::BLANK };
+        let mut raw = RawLink { announce: self.announce.unwrap_or(0), verify_count: self.verifies.len() as u16, ..RawLink::BLANK };
         for (place, id) in raw.verifies.iter_mut().zip(&self.verifies) {
             *place = *id;
         }

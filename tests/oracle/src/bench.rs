@@ -3,7 +3,7 @@
 use crate::base::{Base, State, Vote};
 use crate::engine::Engine;
 use crate::faults::Fault;
-use crate::limits::{LONGEST_SCHEDULE, OUTPUT_ROOM, REPORT_ROOM};
+use crate::limits::{most_faulty, LONGEST_BURST, LONGEST_FRAME, LONGEST_SCHEDULE, MOST_BASES, OUTPUT_ROOM, REPORT_ROOM};
 use crate::message::Message;
 use crate::model::Model;
 use crate::net::{Event, History, Net, Setting};
@@ -78,7 +78,7 @@ fn list(n: usize) -> Vec<u32> {
 
 /// A running base of n that holds everything but one Verify: the prime check goes through to its end, and succeeds.
 fn all_but_one(n: usize) -> Base {
-    let mut base = Base::idle(n, (n - 2) / 2, 1000, Fault::None).expect("a base of a net");
+    let mut base = Base::idle(n, most_faulty(n), 1000, Fault::None).expect("a base of a net");
     base.state = State::Running;
     for (link, id) in base.links.iter_mut().zip(list(n).into_iter().skip(1)) {
         link.announce = Some(id);
@@ -105,10 +105,10 @@ fn stopped(n: usize) -> Base {
 
 /// Sixteen bases without a faulty link, every broadcast carried, and starts behind it up to the limit.
 fn full_schedule() -> Vec<u8> {
-    let setting = Setting { t: 7, ids: list(16), faulty: BTreeSet::new() };
+    let setting = Setting { t: most_faulty(MOST_BASES), ids: list(MOST_BASES), faulty: BTreeSet::new() };
     let mut model = Model::TRUE;
     let mut net = Net::new(setting.clone(), &mut model, Fault::None);
-    let mut events: Vec<Event> = (1..=16).map(|at| Event::Start { at }).collect();
+    let mut events: Vec<Event> = (1..=MOST_BASES).map(|at| Event::Start { at }).collect();
     for event in &events {
         net.happen(event, OUTPUT_ROOM, &mut model);
     }
@@ -126,7 +126,7 @@ fn full_schedule() -> Vec<u8> {
     let end = text[..LONGEST_SCHEDULE.min(text.len()) - 64].iter().rposition(|&byte| byte == b'\n');
     text.truncate(end.map_or(0, |end| end + 1));
     while !(LONGEST_SCHEDULE - text.len()).is_multiple_of(8) {
-        text.extend_from_slice(b"start 16\n");
+        text.extend_from_slice(b"start 10\n");
     }
     text.extend_from_slice(&b"start 1\n".repeat((LONGEST_SCHEDULE - text.len()) / 8));
     text
@@ -134,8 +134,8 @@ fn full_schedule() -> Vec<u8> {
 
 fn rows() -> Vec<(String, Work)> {
     let mut rows = Vec::new();
-    for n in [4, 8, 16] {
-        let idle = Base::idle(n, (n - 2) / 2, 1000, Fault::None).expect("a base of a net").raw();
+    for n in [4, 8, MOST_BASES] {
+        let idle = Base::idle(n, most_faulty(n), 1000, Fault::None).expect("a base of a net").raw();
         let last = Message::Verify(1000 * n as u32).frame();
         let vote = Message::CorrectFinal(list(n)).frame();
         rows.push((format!("start, n = {n}"), Work::Start(idle)));
@@ -144,12 +144,12 @@ fn rows() -> Vec<(String, Work)> {
         rows.push((format!("arrival, Correct-Final that ends secondary, n = {n}"), Work::Arrive(all_votes(n).raw(), n - 1, vote)));
         rows.push((format!("arrival, at a stopped base, n = {n}"), Work::Arrive(stopped(n).raw(), 1, last)));
     }
-    let mut burst = vec![0x55; 64];
-    burst.extend(Message::CorrectFinal(list(16)).frame());
-    rows.push(("frame of 16 read behind preamble".to_string(), Work::Read(16, burst)));
-    rows.push(("frame of 16 written".to_string(), Work::Write(16, list(16))));
+    let mut burst = vec![0x55; LONGEST_BURST - LONGEST_FRAME];
+    burst.extend(Message::CorrectFinal(list(MOST_BASES)).frame());
+    rows.push((format!("frame of {MOST_BASES} read behind preamble"), Work::Read(MOST_BASES, burst)));
+    rows.push((format!("frame of {MOST_BASES} written"), Work::Write(MOST_BASES, list(MOST_BASES))));
     let schedule = full_schedule();
-    rows.push((format!("schedule of {} bytes, 16 bases", schedule.len()), Work::Replay(schedule)));
+    rows.push((format!("schedule of {} bytes, {MOST_BASES} bases", schedule.len()), Work::Replay(schedule)));
     rows
 }
 

@@ -29,7 +29,8 @@ impl Base {
             _ => usize::from(verifies.contains(&id)),
         };
         let verified: usize = self.links.iter().map(|link| holding(&link.verifies)).sum();
-        let announced_counts = self.fault == Fault::AnnounceCountedAsVerify && self.links.iter().any(|l| l.announce == Some(id) && !l.verifies.contains(&id));
+        let announced_counts =
+            self.fault == Fault::AnnounceCountedAsVerify && self.links.iter().any(|l| l.announce == Some(id) && !l.verifies.contains(&id));
         verified + usize::from(self.is_certified(id)) + usize::from(announced_counts)
     }
 
@@ -40,7 +41,10 @@ impl Base {
 
     /// The number of links that hold Correct-Final of the list.
     pub fn correct_finals(&self, list: &[u32]) -> usize {
-        self.links.iter().filter(|link| link.vector.as_ref().is_some_and(|(vote, held)| *vote == Vote::CorrectFinal && held == list)).count()
+        self.links
+            .iter()
+            .filter(|link| link.vector.as_ref().is_some_and(|(vote, held)| *vote == Vote::CorrectFinal && held == list))
+            .count()
     }
 
     /// "A pair of certified identifiers is suspect if the link that announced either lacks a Verify of the other.

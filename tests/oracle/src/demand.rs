@@ -7,9 +7,9 @@ use crate::model::{leader_of, Model};
 use crate::net::Net;
 use crate::reader::read;
 
-/// What of demand 3 the net breaks, if anything: every base that has stopped has state 2 or 3 and holds all true identifiers, sorted; it names the
-/// leader that the rule takes from them; and if every base has been started and nothing waits, every base has stopped. Besides, a base broadcasts
-/// at most n + 3 frames in its life.
+/// What of demand 3 the net breaks, if anything: every base that has stopped has state 2 or 3 and holds all true identifiers, sorted; it
+/// names the leader that the rule takes from them; and if every base has been started and nothing waits, every base has stopped. Besides, a
+/// base broadcasts at most n + 3 frames in its life.
 pub fn broken(net: &Net) -> Option<String> {
     let truth = net.setting.truth();
     let n = net.setting.n();

@@ -52,6 +52,7 @@ pub trait Engine {
     /// One frame at the output's front. Answers its length, or the number.
     fn write(&mut self, n: usize, kind: u8, ids: &[u32], out: &mut [u8]) -> Result<usize, Number>;
 
-    /// The report of a schedule, at the output's front. Answers its length; 0, and nothing is written, where the output has not the room of every report.
+    /// The report of a schedule, at the output's front. Answers its length; 0, and nothing is written, where the output has not the room of
+    /// every report.
     fn replay(&mut self, schedule: &[u8], out: &mut [u8]) -> usize;
 }

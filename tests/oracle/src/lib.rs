@@ -1,8 +1,9 @@
 //! A second implementation of document 01 ("the oracle"), and the harness that holds an engine against it.
 //!
-//! The model: limits, message, reader, writer, record, soundness, base, checks, steps, net, demand, schedule, replay, and model with the calls.
+//! The model: limits, message, reader, writer, record, soundness, base, checks, steps, net, demand, schedule, replay, and model with the
+//! calls.
 //! The harness: engine (the calls), guard and compared (one call on both), case, generate, plan, reach, shrink, runner, rng; faults.
-//! Stored cases: starred, twelve. The proved engine: linked. Figures: bench.
+//! Stored cases: starred, twelve, stored. The trace program: trace. The proved engine: linked. Figures: bench.
 
 pub mod base;
 pub mod bench;
@@ -26,11 +27,15 @@ pub mod reader;
 pub mod record;
 pub mod replay;
 pub mod rng;
+#[path = "../../../include/roster.rs"]
+pub mod roster;
 pub mod runner;
 pub mod schedule;
 pub mod shrink;
 pub mod soundness;
 pub mod starred;
 pub mod steps;
+pub mod stored;
+pub mod trace;
 pub mod twelve;
 pub mod writer;

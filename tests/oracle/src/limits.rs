@@ -1,21 +1,34 @@
-//! The sizes of document 01.
+//! The sizes of document 01. Most follow from the most bases of a net.
 
 pub const FEWEST_BASES: usize = 2;
 pub const MOST_BASES: usize = 16;
-pub const MOST_LINKS: usize = 15;
+pub const MOST_LINKS: usize = MOST_BASES - 1;
 
 /// "Announce and Verify together are at most n + 1": the room of a link's list in the record.
-pub const LIST_ROOM: usize = 17;
+pub const LIST_ROOM: usize = MOST_BASES + 1;
+
+/// "always 4 × count + 4": the bytes of a frame of so many identifiers.
+pub const fn frame_bytes(count: usize) -> usize {
+    4 * count + 4
+}
+
+pub const LONGEST_FRAME: usize = frame_bytes(MOST_BASES);
 
 /// "A call broadcasts at most three frames, one after another in the output, 136 bytes at most."
-pub const OUTPUT_ROOM: usize = 136;
+pub const OUTPUT_ROOM: usize = 2 * LONGEST_FRAME;
 
-pub const SHORTEST_BURST: usize = 8;
-pub const LONGEST_BURST: usize = 132;
+/// "The burst is shorter than 8 or longer than 132 bytes."
+pub const SHORTEST_BURST: usize = frame_bytes(1);
+pub const LONGEST_BURST: usize = LONGEST_FRAME + 64;
+
+/// "a burst to b as if from a, 0 to 132 bytes": what a schedule's line takes.
+pub const LONGEST_FORGERY: usize = 132;
+
 pub const LONGEST_SCHEDULE: usize = 65_536;
 
-/// What a replay asks to be lent (docs/DECISIONS.md): 213 bytes for the line of each of 16 bases and for the last line. No report takes as much.
-pub const REPORT_ROOM: usize = 17 * 213;
+/// What a replay asks to be lent (docs/DECISIONS.md): room for the line of each base and for the last line. No report takes as much.
+pub const LINE_ROOM: usize = 37 + 11 * MOST_BASES;
+pub const REPORT_ROOM: usize = (MOST_BASES + 1) * LINE_ROOM;
 
 /// "t is at most (n − 2) / 2 rounded down"
 pub fn most_faulty(n: usize) -> usize {
@@ -56,10 +69,20 @@ mod tests {
     }
 
     #[test]
+    fn sizes_are_those_of_the_header() {
+        use crate::roster;
+        assert_eq!((FEWEST_BASES, MOST_BASES, LIST_ROOM), (roster::FEWEST_BASES, roster::MOST_BASES, roster::LIST_ROOM));
+        assert_eq!((OUTPUT_ROOM, LONGEST_FRAME, REPORT_ROOM), (roster::OUTPUT_ROOM, roster::LONGEST_FRAME, roster::REPORT_ROOM));
+        assert_eq!((SHORTEST_BURST, LONGEST_BURST), (roster::SHORTEST_BURST, roster::LONGEST_BURST));
+        assert_eq!(LONGEST_SCHEDULE, roster::LONGEST_SCHEDULE);
+    }
+
+    #[test]
     fn figures_of_document_01() {
         assert_eq!([2, 3, 4, 5, 6, 12, 15, 16].map(most_faulty), [0, 0, 1, 1, 2, 5, 6, 7]);
-        let line = |b: usize| format!("base {b} secondary{} leader 4294967295\n", " 4294967295".repeat(16)).len();
-        let waiting = format!("waiting {}\n", 16 * 15 * 19).len();
-        assert!((1..=16).map(line).sum::<usize>() + waiting <= REPORT_ROOM);
+        assert_eq!((OUTPUT_ROOM, SHORTEST_BURST, LONGEST_BURST), (136, 8, 132));
+        let line = |b: usize| format!("base {b} secondary{} leader 4294967295\n", " 4294967295".repeat(MOST_BASES)).len();
+        let waiting = format!("waiting {}\n", MOST_BASES * MOST_LINKS * (MOST_BASES + 3)).len();
+        assert!((1..=MOST_BASES).map(line).sum::<usize>() + waiting <= REPORT_ROOM);
     }
 }

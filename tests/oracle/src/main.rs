@@ -4,11 +4,15 @@ use oracle::engine::Engine;
 use oracle::faults::Fault;
 use oracle::model::Model;
 use oracle::schedule::render;
-use oracle::{bench, replay, runner, starred, twelve};
+use oracle::{bench, replay, runner, starred, stored, trace, twelve};
 use std::io::Read;
 use std::process::ExitCode;
 
-const USAGE: &str = "usage: oracle [seconds] [seed] | faults [name] | starred | bench | replay < schedule | twelve";
+const USAGE: &str = "usage: oracle [seconds] [seed] | faults [name] | starred | stored folder | trace program folder | bench
+       oracle replay < schedule | twelve";
+
+/// Schedules that are made for the trace program, beside the stored ones.
+const MADE_FOR_THE_TRACE: usize = 300;
 
 /// The engine under test: the linked one, or the model itself where none is linked.
 #[cfg(feature = "linked")]
@@ -28,6 +32,8 @@ fn main() -> ExitCode {
         ["faults"] => runner::faults(1, None),
         ["faults", name] => runner::faults(1, Some(name)),
         ["starred"] => check_starred(),
+        ["stored", folder] => stored::run(folder),
+        ["trace", program, folder] => trace::run(program, folder, MADE_FOR_THE_TRACE, 1),
         ["bench"] => bench::run(cfg!(feature = "linked").then_some(engine().as_mut())),
         ["replay"] => replay_input(),
         ["twelve"] => print_twelve(),

@@ -1,6 +1,7 @@
 //! A message, and its frame: "The body comes first, then a trailer of four bytes".
 
 use crate::faults::Fault;
+use crate::limits::frame_bytes;
 
 #[derive(Clone, Debug, PartialEq, Eq)]
 pub enum Message {
@@ -33,7 +34,7 @@ impl Kind {
     }
 
     pub fn frame_length(self, n: usize) -> usize {
-        4 * self.count(n) + 4
+        frame_bytes(self.count(n))
     }
 }
 
@@ -70,7 +71,7 @@ impl Message {
 
     pub fn frame_with(&self, fault: Fault) -> Vec<u8> {
         let ids = self.identifiers();
-        let distance = 4 * ids.len() + if fault == Fault::DistanceCountsBodyOnly { 0 } else { 4 };
+        let distance = frame_bytes(ids.len()) - if fault == Fault::DistanceCountsBodyOnly { 4 } else { 0 };
         let mut bytes: Vec<u8> = ids.iter().flat_map(|&id| identifier_bytes(id, fault)).collect();
         bytes.extend([self.kind() as u8, ids.len() as u8]);
         bytes.extend((distance as u16).to_be_bytes());

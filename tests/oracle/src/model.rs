@@ -88,7 +88,7 @@ impl Model {
         if self.fault == Fault::OutputPastFramesTouched && at < out.len() {
             out[at] ^= 0xff;
         }
-        if turn.accepted || self.fault == Fault::DiscardedAnsweredAccepted {
+        if turn.discarded.is_none() || self.fault == Fault::DiscardedAnsweredAccepted {
             Answer::Accepted(lengths)
         } else {
             Answer::Discarded(lengths)

@@ -194,4 +194,15 @@ impl History {
     pub fn of(setting: Setting, events: Vec<Event>) -> History {
         History { setting, events: events.into_iter().map(|event| (event, OUTPUT_ROOM)).collect() }
     }
+
+    /// Without the events that 16 to 18 turn down, which a schedule cannot have; and the net that it leaves.
+    pub fn as_scheduled(mut self, engine: &mut dyn Engine) -> (History, Net) {
+        let mut net = Net::new(self.setting.clone(), engine, Fault::None);
+        self.events.retain(|(event, room)| {
+            let turned_down = net.turned_down(event).is_some();
+            net.happen(event, *room, engine);
+            !turned_down
+        });
+        (self, net)
+    }
 }

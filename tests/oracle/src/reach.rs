@@ -8,7 +8,7 @@ use std::collections::BTreeMap;
 
 #[derive(Clone, Debug, Default)]
 pub struct Reach {
-    pub counts: BTreeMap<&'static str, u64>,
+    counts: BTreeMap<&'static str, u64>,
 }
 
 /// Every state that is counted, so that one never reached shows as 0.
@@ -33,7 +33,20 @@ pub const STATES: [&str; 18] = [
     "all stopped, nothing waits",
 ];
 
+/// A run of this many seconds comes to each state at least so often: some nine times as often on a busy processor.
+pub const SECONDS: u64 = 60;
+pub const LEAST: u64 = 10;
+
 impl Reach {
+    pub fn count(&self, state: &'static str) -> u64 {
+        self.counts.get(state).copied().unwrap_or(0)
+    }
+
+    /// The states that a run of `SECONDS` should have come to more often.
+    pub fn missed(&self) -> Vec<&'static str> {
+        STATES.into_iter().filter(|state| self.count(state) < LEAST).collect()
+    }
+
     pub fn add(&mut self, state: &'static str) {
         debug_assert!(STATES.contains(&state));
         *self.counts.entry(state).or_default() += 1;

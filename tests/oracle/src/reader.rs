@@ -1,7 +1,7 @@
 //! "Frames, read from the end": refusals 1 and 7 to 12, in that order.
 
 use crate::faults::Fault;
-use crate::limits::{FEWEST_BASES, LONGEST_BURST, MOST_BASES, SHORTEST_BURST};
+use crate::limits::{frame_bytes, FEWEST_BASES, LONGEST_BURST, MOST_BASES, SHORTEST_BURST};
 use crate::message::{identifier_of, strictly_ascending, Kind, Message};
 
 /// A number of document 01's "Turning calls down".
@@ -32,7 +32,7 @@ pub fn read(n: usize, burst: &[u8], fault: Fault) -> Result<Frame, Number> {
     let kind = Kind::of(trailer[0]);
     let count = trailer[1] as usize;
     let distance = u16::from_be_bytes([trailer[2], trailer[3]]) as usize;
-    let distance_holds = distance == 4 * count + 4 && distance <= burst.len();
+    let distance_holds = distance == frame_bytes(count) && distance <= burst.len();
     if fault == Fault::TenBeforeNine && kind.is_some() && !distance_holds {
         return Err(10);
     }
@@ -40,11 +40,11 @@ pub fn read(n: usize, burst: &[u8], fault: Fault) -> Result<Frame, Number> {
     if count != kind.count(n) {
         return Err(9);
     }
-    let let_pass = fault == Fault::DistanceNotRead && 4 * count + 4 <= burst.len();
+    let let_pass = fault == Fault::DistanceNotRead && frame_bytes(count) <= burst.len();
     if !distance_holds && !let_pass {
         return Err(10);
     }
-    let start = if fault == Fault::BodyAtTheFront { 0 } else { burst.len() - 4 - 4 * count };
+    let start = if fault == Fault::BodyAtTheFront { 0 } else { burst.len() - frame_bytes(count) };
     let body = &front[start..start + 4 * count];
     let ids: Vec<u32> = body.chunks_exact(4).map(|four| identifier_of(four, fault)).collect();
     judge_identifiers(&ids, fault)?;
@@ -76,9 +76,9 @@ mod tests {
 
     #[test]
     fn preamble_is_skipped() {
-        let mut burst = vec![9; 124];
+        let mut burst = vec![9; LONGEST_BURST - SHORTEST_BURST];
         burst.extend(Message::Verify(7).frame());
-        assert_eq!(read(2, &burst, Fault::None), Ok(Frame { message: Message::Verify(7), start: 124 }));
+        assert_eq!(read(2, &burst, Fault::None), Ok(Frame { message: Message::Verify(7), start: LONGEST_BURST - SHORTEST_BURST }));
         burst.insert(0, 9);
         assert_eq!(number(2, &burst), 7);
     }
@@ -86,7 +86,7 @@ mod tests {
     #[test]
     fn each_refusal() {
         assert_eq!(number(1, &[]), 1);
-        assert_eq!(number(17, &[]), 1);
+        assert_eq!(number(MOST_BASES + 1, &[]), 1);
         assert_eq!(number(2, &[0; 7]), 7);
         assert_eq!(number(2, &[0, 0, 0, 1, 0, 1, 0, 8]), 8);
         assert_eq!(number(2, &[0, 0, 0, 1, 5, 1, 0, 8]), 8);

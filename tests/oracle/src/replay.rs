@@ -29,15 +29,22 @@ pub fn report(schedule: &[u8], fault: Fault) -> String {
 
 /// The net after the schedule's last line, or its first refused line.
 pub fn replay(schedule: &[u8], fault: Fault) -> Result<Net, Refused> {
+    watched(schedule, fault, &mut |_, _, _| ())
+}
+
+/// Is shown each event that 16 to 18 do not turn down, with its line and the net before it.
+type Watch<'w> = &'w mut dyn FnMut(usize, &Net, &Event);
+
+/// The same, with somebody who looks on.
+pub fn watched(schedule: &[u8], fault: Fault, watch: Watch) -> Result<Net, Refused> {
     let longest = if fault == Fault::LongScheduleRead { LONGEST_SCHEDULE + 1 } else { LONGEST_SCHEDULE };
     let too_long = schedule.len() > longest;
     if too_long && fault != Fault::LongScheduleLast {
         return Err(Refused { number: 13, line: 1 });
     }
-    let mut player = Player { stage: Stage::Net, model: Model { fault }, fault };
-    let mut last = 0;
+    let mut player = Player { stage: Stage::Net, model: Model { fault }, fault, line: 0, watch };
     for (line, text) in lines(schedule) {
-        last = line;
+        player.line = line;
         let text = match text {
             Ok(text) => text,
             Err(unended) if fault == Fault::LastLineUnended => unended,
@@ -51,7 +58,7 @@ pub fn replay(schedule: &[u8], fault: Fault) -> Result<Net, Refused> {
     if too_long {
         return Err(Refused { number: 13, line: 1 });
     }
-    let missing = if fault == Fault::MissingLineNamedByLast { last.max(1) } else { last + 1 };
+    let missing = if fault == Fault::MissingLineNamedByLast { player.line.max(1) } else { player.line + 1 };
     player.end().ok_or(Refused { number: 13, line: missing })
 }
 
@@ -67,16 +74,19 @@ enum Stage {
     Events(Box<Net>),
 }
 
-struct Player {
+struct Player<'w> {
     stage: Stage,
     model: Model,
     fault: Fault,
+    /// The line being read, from 1.
+    line: usize,
+    watch: Watch<'w>,
 }
 
 /// What stands in for a line that breaks its form.
 const FORM: Number = 13;
 
-impl Player {
+impl Player<'_> {
     /// One line: "A line's form comes before its other checks".
     fn take(&mut self, text: &[u8]) -> Result<(), Number> {
         let line = parse(text, self.fault).ok_or(FORM)?;
@@ -116,6 +126,9 @@ impl Player {
     /// "refusals of its burst leave the schedule running"
     fn play(&mut self, event: &Event) -> Result<(), Number> {
         let Stage::Events(net) = &mut self.stage else { return Err(FORM) };
+        if net.turned_down(event).is_none() {
+            (self.watch)(self.line, net, event);
+        }
         match net.happen(event, OUTPUT_ROOM, &mut self.model) {
             Answer::Refused(16) if self.fault == Fault::CarryBeforeBroadcast => Ok(()),
             Answer::Refused(number @ 16..=18) => Err(number),
@@ -126,7 +139,7 @@ impl Player {
 
     /// The net at the end, or nothing where a header line is missing.
     fn end(self) -> Option<Net> {
-        let Player { stage, mut model, fault } = self;
+        let Player { stage, mut model, fault, .. } = self;
         match stage {
             Stage::Net | Stage::Ids { .. } => None,
             Stage::Faulty(setting) => Some(Net::new(setting, &mut model, fault)),

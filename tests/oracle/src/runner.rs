@@ -5,7 +5,7 @@ use crate::engine::Engine;
 use crate::faults::Fault;
 use crate::model::Model;
 use crate::plan;
-use crate::reach::{Reach, STATES};
+use crate::reach::{Reach, LEAST, SECONDS, STATES};
 use crate::rng::Rng;
 use crate::schedule::render;
 use crate::shrink::shrink;
@@ -42,7 +42,7 @@ impl Tried {
         println!("  {:>10}  events in histories", self.events);
         println!("states reached in histories:");
         for state in STATES {
-            println!("  {:>10}  {state}", self.reach.counts.get(state).unwrap_or(&0));
+            println!("  {:>10}  {state}", self.reach.count(state));
         }
     }
 }
@@ -53,7 +53,13 @@ fn row(seed: u64, from: u64) -> impl Iterator<Item = Case> {
 }
 
 /// The first case in which the engine differs, with what differs.
-fn search(engine: &mut dyn Engine, cases: impl Iterator<Item = Case>, time: Duration, tried: &mut Tried, progress: bool) -> Option<(Case, String)> {
+fn search(
+    engine: &mut dyn Engine,
+    cases: impl Iterator<Item = Case>,
+    time: Duration,
+    tried: &mut Tried,
+    progress: bool,
+) -> Option<(Case, String)> {
     let begin = Instant::now();
     let mut told = begin;
     for case in cases {
@@ -64,7 +70,12 @@ fn search(engine: &mut dyn Engine, cases: impl Iterator<Item = Case>, time: Dura
         if progress && told.elapsed() > Duration::from_secs(2) {
             told = Instant::now();
             let histories = tried.kinds.get("histories").unwrap_or(&0);
-            eprintln!("{:>4} s: {} cases, {histories} histories of {} events, no difference", begin.elapsed().as_secs(), tried.total(), tried.events);
+            eprintln!(
+                "{:>4} s: {} cases, {histories} histories of {} events, no difference",
+                begin.elapsed().as_secs(),
+                tried.total(),
+                tried.events
+            );
         }
         if begin.elapsed() > time {
             return None;
@@ -73,7 +84,7 @@ fn search(engine: &mut dyn Engine, cases: impl Iterator<Item = Case>, time: Dura
     None
 }
 
-/// The run of the command line. True where no difference was found.
+/// The run of the command line. True where no difference was found, and a run that is long enough came to every state often enough.
 pub fn run(engine: &mut dyn Engine, seconds: u64, seed: u64) -> bool {
     println!("{} against the model, {seconds} s, seed {seed}", engine.name());
     let mut tried = Tried::default();
@@ -82,8 +93,10 @@ pub fn run(engine: &mut dyn Engine, seconds: u64, seed: u64) -> bool {
     tried.print();
     match found {
         None => {
+            let missed = if seconds < SECONDS { Vec::new() } else { tried.reach.missed() };
+            missed.iter().for_each(|state| println!("REACHED LESS THAN {LEAST} TIMES: {state}"));
             println!("no difference in {} cases", tried.total());
-            true
+            missed.is_empty()
         }
         Some((case, what)) => {
             println!("DIFFERENCE after {} cases, of {}: {what}", tried.total(), case.kind());
@@ -141,7 +154,13 @@ pub fn faults(seed: u64, only: Option<&str>) -> bool {
         match search(&mut engine, cases, Duration::from_secs(20), &mut tried, false) {
             Some((case, what)) => {
                 let what: String = what.chars().take(90).collect();
-                println!("caught {:<34} {:>6} cases {:>5} ms  {}: {what}", fault.name(), tried.total(), at.elapsed().as_millis(), case.kind());
+                println!(
+                    "caught {:<34} {:>6} cases {:>5} ms  {}: {what}",
+                    fault.name(),
+                    tried.total(),
+                    at.elapsed().as_millis(),
+                    case.kind()
+                );
                 if only.is_some() {
                     tell_shortened(&case, &mut engine, seed);
                 }

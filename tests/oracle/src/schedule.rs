@@ -1,6 +1,7 @@
 //! The form of a schedule's lines: "Lines end in a line feed; single spaces; decimal without leading zeros, at most 4,294,967,295".
 
 use crate::faults::Fault;
+use crate::limits::{LONGEST_FORGERY, OUTPUT_ROOM};
 use crate::net::{Event, History};
 use std::fmt::Write;
 
@@ -54,7 +55,7 @@ fn decimal(word: &str, fault: Fault) -> Option<u32> {
 
 /// "0 to 132 bytes, two lower-case digits each, after one space"
 fn hex_bytes(word: &str, fault: Fault) -> Option<Vec<u8>> {
-    let most = if fault == Fault::ForgeOf133 { 133 } else { 132 };
+    let most = LONGEST_FORGERY + usize::from(fault == Fault::ForgeOneByteLonger);
     let lower = |byte: u8| matches!(byte, b'0'..=b'9' | b'a'..=b'f') || (fault == Fault::UpperCaseHex && byte.is_ascii_hexdigit());
     if !word.len().is_multiple_of(2) || word.len() / 2 > most || !word.bytes().all(lower) {
         return None;
@@ -62,7 +63,7 @@ fn hex_bytes(word: &str, fault: Fault) -> Option<Vec<u8>> {
     (0..word.len()).step_by(2).map(|i| u8::from_str_radix(&word[i..i + 2], 16).ok()).collect()
 }
 
-/// The history as a schedule. A burst of more than 132 bytes, and a call with too short an output, have no line: they change nothing.
+/// The history as a schedule. A burst too long for a line, and a call with too short an output, have no line: they change nothing.
 pub fn render(history: &History) -> String {
     let setting = &history.setting;
     let mut text = format!("net {} {}\n", setting.n(), setting.t);
@@ -73,7 +74,7 @@ pub fn render(history: &History) -> String {
         let _ = writeln!(text, "faulty {a} {b}");
     }
     for (event, room) in &history.events {
-        if *room >= crate::limits::OUTPUT_ROOM {
+        if *room >= OUTPUT_ROOM {
             text.push_str(&event_line(event));
         }
     }
@@ -84,7 +85,7 @@ pub fn event_line(event: &Event) -> String {
     match event {
         Event::Start { at } => format!("start {at}\n"),
         Event::Carry { from, to, k } => format!("carry {from} {to} {k}\n"),
-        Event::Forge { bytes, .. } if bytes.len() > 132 => String::new(),
+        Event::Forge { bytes, .. } if bytes.len() > LONGEST_FORGERY => String::new(),
         Event::Forge { from, to, bytes } => {
             let hex: String = bytes.iter().map(|byte| format!("{byte:02x}")).collect();
             format!("forge {from} {to} {hex}\n")

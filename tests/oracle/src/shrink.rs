@@ -2,6 +2,7 @@
 
 use crate::case::Case;
 use crate::engine::Engine;
+use crate::limits::{LIST_ROOM, MOST_BASES};
 use crate::net::{Event, History};
 use crate::reach::Reach;
 use crate::record::{RawBase, RawLink};
@@ -102,10 +103,10 @@ fn barest(record: RawBase, mut differs: impl FnMut(&RawBase) -> bool) -> RawBase
     for i in 0..best.links.len() {
         attempt(&mut best, &|base| base.links[i] = RawLink::BLANK);
         attempt(&mut best, &|base| base.links[i].announce = 0);
-        attempt(&mut best, &|base| (base.links[i].held, base.links[i].list) = (0, [0; 16]));
-        for _ in 0..best.links[i].verify_count.min(17) {
+        attempt(&mut best, &|base| (base.links[i].held, base.links[i].list) = (0, [0; MOST_BASES]));
+        for _ in 0..best.links[i].verify_count.min(LIST_ROOM as u16) {
             attempt(&mut best, &|base| {
-                let last = base.links[i].verify_count.clamp(1, 17) - 1;
+                let last = base.links[i].verify_count.clamp(1, LIST_ROOM as u16) - 1;
                 base.links[i].verifies[last as usize] = 0;
                 base.links[i].verify_count = last;
             });

@@ -4,7 +4,7 @@ use crate::base::Base;
 use crate::checks::PrimeFigures;
 use crate::engine::{Answer, Engine};
 use crate::faults::Fault;
-use crate::limits::{OUTPUT_ROOM, REPORT_ROOM};
+use crate::limits::{most_faulty, OUTPUT_ROOM, REPORT_ROOM};
 use crate::message::Message;
 use crate::record::RawBase;
 use crate::schedule::render;
@@ -60,8 +60,9 @@ fn prime_case(name: &'static str, missing: &[(usize, u32)], answer: Answer, sum:
     Starred { name, n: 4, t: 1, arrivals: four_certified(missing), answer, state, figures }
 }
 
-fn vote_case(name: &'static str, n: usize, t: usize, arrivals: Vec<(usize, Message)>, answer: Answer, state: u8, tally: usize) -> Starred {
-    Starred { name, n, t, arrivals, answer, state, figures: vec![Figure::ListTally(v(n), tally)] }
+/// Vector messages at a base of n; the state and the tally of the true list that they end with.
+fn vote_case(name: &'static str, n: usize, arrivals: Vec<(usize, Message)>, answer: Answer, (state, tally): (u8, usize)) -> Starred {
+    Starred { name, n, t: most_faulty(n), arrivals, answer, state, figures: vec![Figure::ListTally(v(n), tally)] }
 }
 
 /// A link of one of four bases that holds `count` identifiers, one of them announced, when the last of them or one more comes.
@@ -94,40 +95,21 @@ fn prime_cases() -> Vec<Starred> {
 fn vote_cases() -> Vec<Starred> {
     let correct = |link, n| (link, CorrectFinal(v(n)));
     let verify = |link, n| (link, VerifyFinal(v(n)));
+    let other = |link, n| (link, VerifyFinal(u(n)));
+    let (one, two) = (Answer::Accepted([28, 0, 0]), Answer::Accepted([20, 20, 0]));
+    let mut falls = vote_case("Correct-Final V over Verify-Final U: U's tally falls", 4, vec![other(1, 4), other(2, 4)], RUNS_ON, (1, 1));
+    falls.arrivals.push(correct(1, 4));
+    falls.figures.push(Figure::ListTally(u(4), 1));
     vec![
-        vote_case("two Correct-Final V: secondary", 4, 1, vec![correct(1, 4), correct(2, 4)], Answer::Accepted([20, 20, 0]), 3, 2),
-        vote_case("one and a Verify-Final V: runs on", 4, 1, vec![correct(1, 4), verify(2, 4)], RUNS_ON, 1, 2),
-        vote_case("a Verify-Final V and one: runs on", 4, 1, vec![verify(2, 4), correct(1, 4)], RUNS_ON, 1, 2),
-        vote_case("n = 6, t = 2: two Correct-Final V run on", 6, 2, vec![correct(1, 6), correct(2, 6)], Answer::Accepted([28, 0, 0]), 1, 2),
-        vote_case(
-            "n = 6, t = 2: a Verify-Final V more makes it secondary",
-            6,
-            2,
-            vec![correct(1, 6), correct(2, 6), verify(3, 6)],
-            Answer::Accepted([28, 0, 0]),
-            3,
-            3,
-        ),
-        vote_case(
-            "a link that gave both vector messages counts once",
-            6,
-            2,
-            vec![verify(1, 6), correct(1, 6), correct(2, 6)],
-            Answer::Accepted([28, 0, 0]),
-            1,
-            2,
-        ),
-        vote_case("the same, its own last: counts once", 6, 2, vec![correct(2, 6), verify(1, 6), correct(1, 6)], Answer::Accepted([28, 0, 0]), 1, 2),
-        vote_case("Correct-Final V over Verify-Final U: held", 4, 1, vec![(1, VerifyFinal(u(4))), correct(1, 4)], RUNS_ON, 1, 1),
-        Starred {
-            name: "Correct-Final V over Verify-Final U: U's tally falls",
-            n: 4,
-            t: 1,
-            arrivals: vec![(1, VerifyFinal(u(4))), (2, VerifyFinal(u(4))), correct(1, 4)],
-            answer: RUNS_ON,
-            state: 1,
-            figures: vec![Figure::ListTally(u(4), 1), Figure::ListTally(v(4), 1)],
-        },
+        vote_case("two Correct-Final V: secondary", 4, vec![correct(1, 4), correct(2, 4)], two, (3, 2)),
+        vote_case("one and a Verify-Final V: runs on", 4, vec![correct(1, 4), verify(2, 4)], RUNS_ON, (1, 2)),
+        vote_case("a Verify-Final V and one: runs on", 4, vec![verify(2, 4), correct(1, 4)], RUNS_ON, (1, 2)),
+        vote_case("n = 6, t = 2: two Correct-Final V run on", 6, vec![correct(1, 6), correct(2, 6)], one, (1, 2)),
+        vote_case("the same and a Verify-Final V: secondary", 6, vec![correct(1, 6), correct(2, 6), verify(3, 6)], one, (3, 3)),
+        vote_case("both vector messages of a link count once", 6, vec![verify(1, 6), correct(1, 6), correct(2, 6)], one, (1, 2)),
+        vote_case("the same, its own last: count once", 6, vec![correct(2, 6), verify(1, 6), correct(1, 6)], one, (1, 2)),
+        vote_case("Correct-Final V over Verify-Final U: held", 4, vec![other(1, 4), correct(1, 4)], RUNS_ON, (1, 1)),
+        falls,
     ]
 }
 
@@ -139,7 +121,10 @@ fn other_cases() -> Vec<Starred> {
             name: "own Announce at an idle base: discarded, with the frames of its start",
             ..started(Answer::Discarded([8, 8, 0]), vec![(1, Announce(10))])
         },
-        Starred { name: "a second Verify of one identifier from one link: discarded", ..started(DISCARDED, vec![(1, Verify(7)), (1, Verify(7))]) },
+        Starred {
+            name: "a second Verify of one identifier from one link: discarded",
+            ..started(DISCARDED, vec![(1, Verify(7)), (1, Verify(7))])
+        },
         list_case("list at n: accepted", 4, RUNS_ON, 5),
         list_case("list at n + 1: discarded", 5, DISCARDED, 5),
     ]

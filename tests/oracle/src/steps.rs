@@ -7,32 +7,46 @@ use crate::message::Message;
 /// What a call on a sound base does besides changing it.
 #[derive(Clone, Debug, PartialEq, Eq)]
 pub struct Turn {
-    pub accepted: bool,
+    pub discarded: Option<Discard>,
     pub broadcast: Vec<Message>,
 }
 
-/// What is broadcast where a message is accepted; nothing where it is discarded.
-type Taken = Option<Vec<Message>>;
+/// Why a start or a message is discarded: the first reason of document 01's sentence that holds.
+#[derive(Clone, Copy, Debug, PartialEq, Eq, PartialOrd, Ord)]
+pub enum Discard {
+    HasStarted,
+    HasStopped,
+    AnnounceHeld,
+    Certified,
+    ListFull,
+    VerifyHeld,
+    CorrectFinalHeld,
+    VectorMessageHeld,
+}
+
+/// What is broadcast where a message is accepted.
+type Taken = Result<Vec<Message>, Discard>;
 
 impl Base {
-    /// "An idle base broadcasts Announce and Verify of its own identifier, in that order, and runs. At any other state a start is discarded."
+    /// "An idle base broadcasts Announce and Verify of its own identifier, in that order, and runs. At any other state a start is
+    /// discarded."
     pub fn start(&mut self) -> Turn {
         if self.state != State::Idle {
-            return Turn { accepted: false, broadcast: Vec::new() };
+            return Turn { discarded: Some(Discard::HasStarted), broadcast: Vec::new() };
         }
         self.state = State::Running;
         let mut broadcast = vec![Message::Announce(self.own), Message::Verify(self.own)];
         if self.fault == Fault::StartOrderSwapped {
             broadcast.swap(0, 1);
         }
-        Turn { accepted: true, broadcast }
+        Turn { discarded: None, broadcast }
     }
 
     /// "An idle base starts first. A stopped base discards. Then by kind".
     pub fn arrive(&mut self, link: usize, message: Message) -> Turn {
         let mut broadcast = self.start().broadcast;
         if self.stopped() && self.fault != Fault::StoppedBaseListens {
-            return Turn { accepted: false, broadcast };
+            return Turn { discarded: Some(Discard::HasStopped), broadcast };
         }
         let taken = match message {
             Message::Announce(id) => self.take_announce(link, id),
@@ -40,12 +54,12 @@ impl Base {
             Message::CorrectFinal(list) => self.take_correct_final(link, list),
             Message::VerifyFinal(list) => self.take_verify_final(link, list),
         };
-        let accepted = taken.is_some();
-        if !accepted && self.fault == Fault::DiscardAtIdleBaseIsSilent {
+        if taken.is_err() && self.fault == Fault::DiscardAtIdleBaseIsSilent {
             broadcast.clear();
         }
+        let discarded = taken.as_ref().err().copied();
         broadcast.extend(taken.unwrap_or_default());
-        Turn { accepted, broadcast }
+        Turn { discarded, broadcast }
     }
 
     fn list_full(&self, link: usize) -> bool {
@@ -66,8 +80,14 @@ impl Base {
             Fault::AnnounceAtTwoLinksAccepted => id == self.own,
             _ => self.certified().contains(&id),
         };
-        if second || certified || self.list_full(link) {
-            return None;
+        if second {
+            return Err(Discard::AnnounceHeld);
+        }
+        if certified {
+            return Err(Discard::Certified);
+        }
+        if self.list_full(link) {
+            return Err(Discard::ListFull);
         }
         self.links[link].announce = Some(id);
         let mut broadcast = vec![Message::Verify(id)];
@@ -75,23 +95,26 @@ impl Base {
             broadcast.clear();
         }
         broadcast.extend(self.become_prime());
-        Some(broadcast)
+        Ok(broadcast)
     }
 
     /// "Verify g: discarded if that link holds Verify g or is full. Else accepted, then the prime check."
     fn take_verify(&mut self, link: usize, id: u32) -> Taken {
         let repeated = self.links[link].verifies.contains(&id) && self.fault != Fault::VerifyCountedTwice;
-        if repeated || self.list_full(link) {
-            return None;
+        if repeated {
+            return Err(Discard::VerifyHeld);
+        }
+        if self.list_full(link) {
+            return Err(Discard::ListFull);
         }
         match self.fault {
             Fault::VerifyPutInFront => self.links[link].verifies.insert(0, id),
             _ => self.links[link].verifies.push(id),
         }
         if self.fault == Fault::NoPrimeCheckAfterVerify {
-            return Some(Vec::new());
+            return Ok(Vec::new());
         }
-        Some(self.become_prime())
+        Ok(self.become_prime())
     }
 
     /// "Correct-Final V: discarded if the link holds any Correct-Final. Else it replaces what the link holds. If no Verify-Final was ever
@@ -99,8 +122,8 @@ impl Base {
     fn take_correct_final(&mut self, link: usize, list: Vec<u32>) -> Taken {
         let mut counted_twice = 0;
         match &self.links[link].vector {
-            Some((Vote::CorrectFinal, _)) if self.fault != Fault::SecondCorrectFinalAccepted => return None,
-            Some((Vote::VerifyFinal, held)) if self.fault == Fault::ReadingCOff && *held != list => return None,
+            Some((Vote::CorrectFinal, _)) if self.fault != Fault::SecondCorrectFinalAccepted => return Err(Discard::CorrectFinalHeld),
+            Some((Vote::VerifyFinal, held)) if self.fault == Fault::ReadingCOff && *held != list => return Err(Discard::VectorMessageHeld),
             Some((Vote::VerifyFinal, held)) if self.fault == Fault::BothVectorMessagesCounted && *held == list => counted_twice = 1,
             _ => {}
         }
@@ -113,16 +136,16 @@ impl Base {
             broadcast.push(Message::VerifyFinal(list.clone()));
         }
         broadcast.extend(self.become_secondary(&list, counted_twice));
-        Some(broadcast)
+        Ok(broadcast)
     }
 
     /// "Verify-Final V: discarded if the link holds any vector message. Else held, then the secondary check on V."
     fn take_verify_final(&mut self, link: usize, list: Vec<u32>) -> Taken {
         if self.links[link].vector.is_some() {
-            return None;
+            return Err(Discard::VectorMessageHeld);
         }
         self.links[link].vector = Some((Vote::VerifyFinal, list.clone()));
-        Some(self.become_secondary(&list, 0))
+        Ok(self.become_secondary(&list, 0))
     }
 
     /// "Then the final list is the certified ones sorted, Correct-Final is broadcast, state 2."

@@ -1,15 +1,17 @@
-//! The history that reading (c) is about: "twelve bases with t = 5 and faulty links BC, BD, WE, FG, HI can wait for ever: B once sent a false
-//! Verify-Final, became prime, and its Correct-Final is thrown away."
+//! The history that reading (c) is about: "twelve bases with t = 5 and faulty links BC, BD, WE, FG, HI can wait for ever: B once sent a
+//! false Verify-Final, became prime, and its Correct-Final is thrown away."
 //!
 //! Why the others wait, where a Correct-Final does not replace a Verify-Final of another list:
 //! - C and D invent a Correct-Final of a false list to B, which sends Verify-Final of it. C, D, W, P, Q and R hear that first.
-//! - E has not passed five Announces on when B becomes prime with five suspect pairs, and it never will, for it stops as secondary: B, an invented
-//!   Correct-Final of W, and the Verify-Finals of F, G, H and I, whose second Correct-Final is invented too, make six.
+//! - E has not passed five Announces on when B becomes prime with five suspect pairs, and it never will, for it stops as secondary: B, an
+//!   invented Correct-Final of W, and the Verify-Finals of F, G, H and I, whose second Correct-Final is invented too, make six.
 //! - C and D never hear B's Announce. So everybody but B sees seven suspect pairs, and nobody else becomes prime.
-//! - P, Q and R hold the true list from E, F, G, H and I alone, and F, G, H and I from B, E and three of each other: five, where six are needed.
+//! - P, Q and R hold the true list from E, F, G, H and I alone, and F, G, H and I from B, E and three of each other: five, where six are
+//!   needed.
 
 use crate::engine::Engine;
 use crate::faults::Fault;
+use crate::limits::OUTPUT_ROOM;
 use crate::message::Message;
 use crate::model::Model;
 use crate::net::{Event, History, Net, Setting};
@@ -28,21 +30,21 @@ const Q: usize = 11;
 const R: usize = 12;
 const ALL: [usize; 12] = [B, C, D, W, E, F, G, H, I, P, Q, R];
 
-struct Story {
+struct Course {
     net: Net,
     engine: Model,
     events: Vec<Event>,
 }
 
-impl Story {
-    fn tell(&mut self, event: Event) {
-        self.net.happen(&event, 136, &mut self.engine as &mut dyn Engine);
+impl Course {
+    fn happen(&mut self, event: Event) {
+        self.net.happen(&event, OUTPUT_ROOM, &mut self.engine as &mut dyn Engine);
         self.events.push(event);
     }
 
     fn carry(&mut self, from: usize, to: usize, k: usize) {
         if !self.net.carried.contains(&(from, to, k)) {
-            self.tell(Event::Carry { from, to, k });
+            self.happen(Event::Carry { from, to, k });
         }
     }
 
@@ -52,7 +54,7 @@ impl Story {
     }
 
     fn forge(&mut self, from: usize, to: usize, message: Message) {
-        self.tell(Event::Forge { from, to, bytes: message.frame() });
+        self.happen(Event::Forge { from, to, bytes: message.frame() });
     }
 }
 
@@ -63,55 +65,55 @@ pub fn history(fault: Fault) -> (History, Net) {
     let truth = setting.truth();
     let mut engine = Model { fault };
     let net = Net::new(setting.clone(), &mut engine, Fault::None);
-    let mut story = Story { net, engine, events: Vec::new() };
-    b_sends_a_false_verify_final(&mut story, &truth);
-    b_becomes_prime(&mut story);
-    e_becomes_secondary(&mut story, &truth);
+    let mut course = Course { net, engine, events: Vec::new() };
+    b_sends_a_false_verify_final(&mut course, &truth);
+    b_becomes_prime(&mut course);
+    e_becomes_secondary(&mut course, &truth);
     loop {
-        let waiting = story.net.outstanding();
+        let waiting = course.net.outstanding();
         if waiting.is_empty() {
             break;
         }
-        waiting.into_iter().for_each(|(from, to, k)| story.carry(from, to, k));
+        waiting.into_iter().for_each(|(from, to, k)| course.carry(from, to, k));
     }
-    (History::of(setting, story.events), story.net)
+    (History::of(setting, course.events), course.net)
 }
 
-fn b_sends_a_false_verify_final(story: &mut Story, truth: &[u32]) {
-    ALL.into_iter().for_each(|at| story.tell(Event::Start { at }));
+fn b_sends_a_false_verify_final(course: &mut Course, truth: &[u32]) {
+    ALL.into_iter().for_each(|at| course.happen(Event::Start { at }));
     let mut false_list = truth.to_vec();
     false_list[11] = 113;
-    story.forge(C, B, Message::CorrectFinal(false_list.clone()));
-    story.forge(D, B, Message::CorrectFinal(false_list));
-    [W, P, Q, R].into_iter().for_each(|to| story.carry(B, to, 3));
+    course.forge(C, B, Message::CorrectFinal(false_list.clone()));
+    course.forge(D, B, Message::CorrectFinal(false_list));
+    [W, P, Q, R].into_iter().for_each(|to| course.carry(B, to, 3));
 }
 
 /// E does not hear C, D, P, Q and R yet; C and D never hear B, but B hears them, and an invented Verify of its own identifier.
-fn b_becomes_prime(story: &mut Story) {
+fn b_becomes_prime(course: &mut Course) {
     for from in ALL {
         for to in ALL {
             let kept_back = to == E && [C, D, P, Q, R].contains(&from);
             let lost = from == B && [C, D].contains(&to);
             if from != to && !kept_back && !lost {
-                story.carry(from, to, 1);
+                course.carry(from, to, 1);
             }
         }
     }
     for from in [C, D] {
-        story.forge(from, B, Message::Verify(101));
+        course.forge(from, B, Message::Verify(101));
     }
-    ALL.into_iter().filter(|&from| from != B).for_each(|from| story.carry_all(from, B));
+    ALL.into_iter().filter(|&from| from != B).for_each(|from| course.carry_all(from, B));
 }
 
-fn e_becomes_secondary(story: &mut Story, truth: &[u32]) {
-    let last = story.net.logs[B - 1].len();
-    [E, F, G, H, I].into_iter().for_each(|to| story.carry(B, to, last));
+fn e_becomes_secondary(course: &mut Course, truth: &[u32]) {
+    let last = course.net.logs[B - 1].len();
+    [E, F, G, H, I].into_iter().for_each(|to| course.carry(B, to, last));
     for (from, to) in [(W, E), (F, G), (G, F), (H, I), (I, H)] {
-        story.forge(from, to, Message::CorrectFinal(truth.to_vec()));
+        course.forge(from, to, Message::CorrectFinal(truth.to_vec()));
     }
     for from in [F, G, H, I] {
-        let last = story.net.logs[from - 1].len();
-        story.carry(from, E, last);
+        let last = course.net.logs[from - 1].len();
+        course.carry(from, E, last);
     }
 }
 

@@ -5,7 +5,6 @@ use mathlib.Core.Bool.{Bool, true, false}
 use native.Mathlib.Nat.{le-refl}
 use native.Mathlib.Decide.{ℕ-discrete}
 use native.Mathlib.Omega.{arith}
-use Rattle.lists.specs.Choice.{and}
 use Rattle.lists.specs.Choice.Laws.{and-both}
 use Rattle.counting.specs.Sums.{bit, sum, all}
 

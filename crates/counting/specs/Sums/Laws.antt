@@ -2,14 +2,14 @@
 use Prim.Native.Nat.{ℕ, zero, suc, _+_, _*_, _≤_, _<_}
 use mathlib.Core.Path.{_≡_, refl, sym, ap, ap₂, _∙_}
 use mathlib.Core.Logic.{_≢_}
-use mathlib.Core.Bool.{Bool, true, false}
+use mathlib.Core.Bool.{Bool, true}
 use native.Mathlib.Nat.{le-refl, zero-mul, suc-mul}
 use native.Mathlib.Decide.{ℕ-discrete}
 use native.Mathlib.Numerals.{add-one}
 use native.Mathlib.Omega.{arith}
-use Rattle.lists.specs.Choice.{and}
 use Rattle.lists.specs.Choice.Laws.{and-true}
 use Rattle.counting.specs.Sums.{sum, all}
+use Rattle.counting.specs.Sums.Bounds.{sum-none}
 
 -- ---- sums
 pub sum-next : (k : ℕ) (f : ℕ → ℕ) → sum (k + 1) f ≡ f k + sum k f
@@ -37,9 +37,7 @@ sum-same zero c = sym (zero-mul c)
 sum-same (suc k) c = let r = sum-same k c in omega (arith, suc-mul k c)
 
 pub sum-zeros : (k : ℕ) → sum k (λ x. 0) ≡ 0
-unfolding sum
-sum-zeros zero = refl
-sum-zeros (suc k) = let r = sum-zeros k in omega arith
+sum-zeros k = sum-none k (λ x. 0) (λ x l. refl)
 
 pub sum-swap : (k m : ℕ) (f : ℕ → ℕ → ℕ) → sum k (λ x. sum m (λ y. f x y)) ≡ sum m (λ y. sum k (λ x. f x y))
 unfolding sum

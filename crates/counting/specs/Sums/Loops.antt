@@ -1,6 +1,6 @@
 -- What a loop that counts, or that tests each, has after one turn more.
 use Prim.Native.Nat.{ℕ, _+_}
-use mathlib.Core.Path.{_≡_, _∙_}
+use mathlib.Core.Path.{_≡_}
 use mathlib.Core.Bool.{Bool, true, false}
 use native.Mathlib.Numerals.{add-one}
 use native.Mathlib.Omega.{arith}
@@ -12,7 +12,8 @@ pub sum-turn : (f : ℕ → ℕ) (i total term : ℕ) → total ≡ sum i f → 
 sum-turn f i total term p q = omega (arith, sum-next i f)
 
 -- the number of those of which a test holds
-pub count-turn : (p : ℕ → Bool) (i total term : ℕ) → total ≡ sum i (λ j. bit (p j)) → term ≡ bit (p i) → total + term ≡ sum (i + 1) (λ j. bit (p j))
+pub count-turn : (p : ℕ → Bool) (i total term : ℕ) → total ≡ sum i (λ j. bit (p j)) → term ≡ bit (p i)
+    → total + term ≡ sum (i + 1) (λ j. bit (p j))
 count-turn p i total term e f = sum-turn (λ j. bit (p j)) i total term e f
 
 -- ---- a test of each, looked at from the last

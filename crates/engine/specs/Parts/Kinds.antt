@@ -12,7 +12,7 @@ use Rattle.limits.specs.Limits.{mostBases, outputRoom}
 use Rattle.limits.specs.Refusals.{NetSize}
 use Rattle.lists.specs.Choice.{choose, or}
 use Rattle.lists.specs.Choice.Laws.{choose-ind, choose-no, clash, or-neither}
-use Rattle.frame.specs.Message.{Message, idsOf, holdsOne, holdsList, known, expected}
+use Rattle.frame.specs.Message.{Message, idsOf, holdsOne, holdsAll, known, expected}
 use Rattle.frame.specs.Message.Laws.{expected-range}
 use Rattle.frame.specs.Reading.{message}
 use Rattle.protocol.specs.declared.Base.{Base}
@@ -44,7 +44,7 @@ module _ (b : Base) (i n : ℕ) (ids : List ℕ) where
   on-verify-final-in e = rw e refl
 
 pub four-kinds : (kind : ℕ) → known kind ≡ true → kind ≢ 1 → kind ≢ 2 → kind ≢ 3 → kind ≢ 4 → ⊥
-unfolding known holdsOne holdsList
+unfolding known holdsOne holdsAll
 four-kinds kind e a b c d = clash e (or-neither (or-neither (ne-eqb kind 1 a) (ne-eqb kind 2 b)) (or-neither (ne-eqb kind 3 c) (ne-eqb kind 4 d)))
 
 -- kinds 3 and 4: the array holds n identifiers

@@ -10,6 +10,7 @@ use lib.ListN.{length, getD, set}
 use lib.Dec.{eqb, ltb}
 use Rattle.limits.specs.Limits.{mostBases, outputRoom}
 use Rattle.limits.specs.Refusals.{netRefusal}
+use Rattle.limits.specs.Refusals.Laws.{net-passes}
 use Rattle.lists.specs.Choice.{choose, and, or, first}
 use Rattle.lists.specs.Choice.Laws.{chosen-yes, chosen-no, and-both, and-no, and-fails, or-first, or-second, or-neither, first-none, first-given, first-passed}
 use Rattle.frame.specs.Reading.{burstRefusal, readRefusal}
@@ -18,17 +19,17 @@ use Rattle.reader.specs.Answers.{readingOf}
 use Rattle.reader.specs.Answers.Laws.{reading-refused}
 use Rattle.protocol.specs.declared.Base.{Base}
 use Rattle.protocol.specs.Numbering.{linkTo}
-use Rattle.protocol.specs.Sound.{settingRefusal, recordRefusal}
+use Rattle.protocol.specs.Sound.Laws.{record-passed}
 use Rattle.protocol.specs.Steps.{Done, start, arrival, arrivalRefusal}
 use Rattle.protocol.specs.Steps.Answers.{arrival-number, start-refused, arrival-refused}
 use Rattle.protocol.specs.Net.{Event, starts, carry, forge, at, good, broadcast, call, callRefusal, eventRefusal, refusal}
 use Rattle.protocol.specs.Net as Nets
 use Rattle.node.specs.declared.Frame.{Frame}
 use Rattle.node.specs.declared.Node.{Node}
-use Rattle.calls.specs.declared.Told.{Told}
-use Rattle.node.specs.Node.{within, logOf, frameAt, written, heardBy, marked}
-use Rattle.calls.specs.Calls.{told}
-use Rattle.calls.specs.Calls.Laws.{after-unchanged}
+use Rattle.node_calls.specs.declared.Told.{Told}
+use Rattle.node.specs.Node.{inRange, logOf, frameAt, written, heardBy, marked}
+use Rattle.node_calls.specs.Calls.{told}
+use Rattle.node_calls.specs.Calls.Laws.{after-unchanged}
 use Rattle.node.specs.Node as Nodes
 use Rattle.node.specs.Node.Log.{frame-written}
 use Rattle.net.specs.declared.Net.{Net}
@@ -38,10 +39,10 @@ use Rattle.events.specs.Events.{marks, after, carryRefusal, carryCall, c
 
 -- ---- a call that is turned down
 module _ (u : Node) where
-  start-down : callRefusal (start (u .base) outputRoom .answer) ≢ 0 → Nodes.after u (start (u .base) outputRoom) ≡ u
+  start-down : callRefusal (start (u .base) outputRoom .answer) ≢ 0 → Nodes.nodeAfter u (start (u .base) outputRoom) ≡ u
   start-down n = after-unchanged u _ (start-refused (u .base) outputRoom n)
 
-  arrival-down : (link : ℕ) (bytes : List ℕ) → callRefusal (arrival (u .base) link bytes outputRoom .answer) ≢ 0 → Nodes.after u (arrival (u .base) link bytes outputRoom) ≡ u
+  arrival-down : (link : ℕ) (bytes : List ℕ) → callRefusal (arrival (u .base) link bytes outputRoom .answer) ≢ 0 → Nodes.nodeAfter u (arrival (u .base) link bytes outputRoom) ≡ u
   arrival-down link bytes n = after-unchanged u _ (arrival-refused (u .base) link bytes outputRoom n)
 
 -- ---- a carry: numbers 16 and 17
@@ -77,7 +78,7 @@ module _ (v u : Node) (faulty : List Nets.Pair) (a b k : ℕ) {n : ℕ} (en : n 
   carry-refused some =
       let r = callRefusal (carryCall v u a b k .answer) in
       ap₂ (λ (m : ℕ) (x : Node). record { refusal = m; node = x }) en
-      (chosen-no (marked (Nodes.after u (carryCall v u a b k)) a k) (ne-eqb (first (carryRefusal v u faulty a b k) r) 0 (λ z. some (en ∙ sym (first-given r (λ y. some (en ∙ y))) ∙ z))) refl)
+      (chosen-no (marked (Nodes.nodeAfter u (carryCall v u a b k)) a k) (ne-eqb (first (carryRefusal v u faulty a b k) r) 0 (λ z. some (en ∙ sym (first-given r (λ y. some (en ∙ y))) ∙ z))) refl)
 
   module _ (none : n ≡ 0) {link : ℕ} (el : link ≡ linkTo b a) {f : Frame} (ef : f ≡ frameAt v k) {t : Told} (et : t ≡ told u (arrival (u .base) link (written f) outputRoom)) where
     is-call : arrival (u .base) link (written f) outputRoom ≡ carryCall v u a b k
@@ -99,8 +100,8 @@ module _ (v u : Node) (faulty : List Nets.Pair) (a b k : ℕ) {n : ℕ} (en : n 
     unfolding carriedTo
     carry-heard none-too {m} em = ap₂ (λ (r : ℕ) (x : Node). record { refusal = r; node = x }) (sym (sym en ∙ none)) (chosen-yes _ (eq-eqb _ 0 (zero-first ∙ none-too)) (em ∙ ap (λ (x : Node). marked x a k) node-is))
       where
-        node-is : t .node ≡ Nodes.after u (carryCall v u a b k)
-        node-is = ap (λ (x : Told). x .node) et ∙ (unfold told in ap (Nodes.after u) is-call)
+        node-is : t .node ≡ Nodes.nodeAfter u (carryCall v u a b k)
+        node-is = ap (λ (x : Told). x .node) et ∙ (unfold told in ap (Nodes.nodeAfter u) is-call)
 
 -- ---- a forgery
 module _ (u : Node) (faulty : List Nets.Pair) (a b : ℕ) (bytes : List ℕ) {g : Bool} (eg : g ≡ good faulty a b) where
@@ -110,11 +111,11 @@ module _ (u : Node) (faulty : List Nets.Pair) (a b : ℕ) (bytes : List ℕ) {g 
 
   -- "refusals of its burst leave the schedule running"
   unread : (c : Base) (link r : ℕ) → readingOf (c .n) bytes ≡ Refused r → callRefusal (arrival c link bytes outputRoom .answer) ≢ 0
-  unfolding arrivalRefusal recordRefusal settingRefusal readRefusal
+  unfolding arrivalRefusal readRefusal
   unread c link r e z =
       let q = reading-refused (c .n) bytes r e in
       let p = first-passed _ _ (sym (arrival-number c link bytes outputRoom) ∙ z) in
-      let net : netRefusal (c .n) ≡ 0 = first-passed _ _ (first-passed _ _ (p .0) .0) .0 in
+      let net : netRefusal (c .n) ≡ 0 = net-passes (record-passed c (p .0) .net) in
       let burst : burstRefusal (c .n) bytes ≡ 0 = first-passed _ _ (first-passed _ _ (p .1) .1) .1 in
       q .1 (sym (q .0) ∙ (first-none (burstRefusal (c .n) bytes) net ∙ burst))
 
@@ -135,7 +136,7 @@ set-self (x ∷ l) (suc i) d = ap (λ (k : List _). x ∷ k) (set-self l i d)
 
 stored-self : (w : Net) (b : ℕ) → withNode w b (nodeAt w b) ≡ w
 unfolding withNode nodeAt
-stored-self w b = go (within b mostBases)
+stored-self w b = go (inRange b mostBases)
   where
     go : (t : Bool) → choose t (record { n = w .n; t = w .t; faulty = w .faulty; nodes = set (w .nodes) (b - 1) (choose t (getD (w .nodes) (b - 1) noNode) (emptyNode (w .n) (w .t))) }) w ≡ w
     go true = unfold choose in ap (λ (l : List Node). record { n = w .n; t = w .t; faulty = w .faulty; nodes = l }) (set-self (w .nodes) (b - 1) noNode)
@@ -143,11 +144,11 @@ stored-self w b = go (within b mostBases)
 
 -- the base that an event reaches, as the event leaves it
 unfoldable pub reachedNode : Net → Event → Node
-reachedNode w e = choose (eqb (refusal (faultyOf w) (shown w) e) 0) (marks e (Nodes.after (nodeAt w (at e)) (call (shown w) e))) (nodeAt w (at e))
+reachedNode w e = choose (eqb (refusal (faultyOf w) (shown w) e) 0) (marks e (Nodes.nodeAfter (nodeAt w (at e)) (call (shown w) e))) (nodeAt w (at e))
 
 pub reached-stored : (w : Net) (e : Event) → withNode w (at e) (reachedNode w e) ≡ after w e
 unfolding reachedNode after
-reached-stored w e = go (eqb (refusal (faultyOf w) (shown w) e) 0) (marks e (Nodes.after (nodeAt w (at e)) (call (shown w) e)))
+reached-stored w e = go (eqb (refusal (faultyOf w) (shown w) e) 0) (marks e (Nodes.nodeAfter (nodeAt w (at e)) (call (shown w) e)))
   where
     go : (t : Bool) (x : Node) → withNode w (at e) (choose t x (nodeAt w (at e))) ≡ choose t (withNode w (at e) x) w
     go true x = unfold choose in refl
@@ -160,7 +161,7 @@ unless-down {n} {x} {u} f = go (eqb n 0) refl
     go true e = unfold choose in refl
     go false e = unfold choose in f (eqb-false n 0 e)
 
-pub start-reaches : (w : Net) (b : ℕ) → Nodes.after (nodeAt w b) (start (nodeAt w b .base) outputRoom) ≡ reachedNode w (starts b outputRoom)
+pub start-reaches : (w : Net) (b : ℕ) → Nodes.nodeAfter (nodeAt w b) (start (nodeAt w b .base) outputRoom) ≡ reachedNode w (starts b outputRoom)
 unfolding reachedNode refusal eventRefusal at call marks shown first choose
 start-reaches w b = unless-down (start-down (nodeAt w b))
 
@@ -178,7 +179,7 @@ forge-reaches w a b bytes = go (good (faultyOf w) a b)
     d : Done
     d = arrival (u .base) (linkTo b a) bytes outputRoom
 
-    go : (t : Bool) → _≡_ {A = Reached} (choose t (record { refusal = 18; node = u }) (record { refusal = 0; node = Nodes.after u d }))
-        (record { refusal = choose t 18 0; node = choose (eqb (first (choose t 18 0) (callRefusal (d .answer))) 0) (Nodes.after u d) u })
+    go : (t : Bool) → _≡_ {A = Reached} (choose t (record { refusal = 18; node = u }) (record { refusal = 0; node = Nodes.nodeAfter u d }))
+        (record { refusal = choose t 18 0; node = choose (eqb (first (choose t 18 0) (callRefusal (d .answer))) 0) (Nodes.nodeAfter u d) u })
     go true = unfold choose first in refl
     go false = unfold choose first in ap (λ (x : Node). record { refusal = 0; node = x }) (unless-down (arrival-down u (linkTo b a) bytes))

@@ -19,7 +19,7 @@ use Rattle.protocol.specs.Net as Nets
 use Rattle.protocol.specs.Agreement.Inner.Moves.{replaced-here, replaced-other}
 use Rattle.protocol.specs.Agreement.Premise.{idleNet}
 use Rattle.node.specs.declared.Node.{Node}
-use Rattle.node.specs.Node.{mostBroadcasts, marks, within, place, logOf, heardBy, withBase, emptyFrame}
+use Rattle.node.specs.Node.{mostBroadcasts, markRoom, inRange, markPlace, logOf, heardBy, withBase, emptyFrame}
 use Rattle.node.specs.Node.Memory.{SizedNode}
 use Rattle.node.specs.Node.Within.{is-within, within-range}
 use Rattle.net.specs.declared.Net.{Net}
@@ -34,7 +34,7 @@ use Rattle.events.specs.Stands.Tables.{replaced-map, net-same, with-node
 -- ---- a base at the beginning
 empty-sized : (n t : ℕ) → SizedNode (emptyNode n t)
 unfolding emptyNode
-empty-sized n t = record { frames = length-replicate mostBroadcasts emptyFrame; heard = length-replicate {A = ℕ} marks 0 }
+empty-sized n t = record { frames = length-replicate mostBroadcasts emptyFrame; heard = length-replicate {A = ℕ} markRoom 0 }
 
 zero-there : (k i : ℕ) → getD {A = ℕ} (replicate k 0) i 0 ≡ 0
 zero-there zero i = refl
@@ -43,13 +43,13 @@ zero-there (suc k) (suc i) = zero-there k i
 
 nothing-heard : (n t x j : ℕ) → heardBy (emptyNode n t) x j ≡ false
 unfolding heardBy emptyNode
-nothing-heard n t x j = ap (λ (m : ℕ). and (within x mostBases) (and (within j mostBroadcasts) (not (eqb m 0)))) (zero-there marks (place x j))
-    ∙ ap (and (within x mostBases)) (and-no (within j mostBroadcasts)) ∙ and-no (within x mostBases)
+nothing-heard n t x j = ap (λ (m : ℕ). and (inRange x mostBases) (and (inRange j mostBroadcasts) (not (eqb m 0)))) (zero-there markRoom (markPlace x j))
+    ∙ ap (and (inRange x mostBases)) (and-no (inRange j mostBroadcasts)) ∙ and-no (inRange x mostBases)
 
 -- ---- `net n t`
 made-node : (n t y : ℕ) → nodeAt (madeNet n t) y ≡ emptyNode n t
 unfolding nodeAt madeNet
-made-node n t y = choose-ind (λ (v : Node). v ≡ emptyNode n t) (within y mostBases) (λ Y. let r = within-range y mostBases Y in getD-replicate mostBases (y - 1) (emptyNode n t) noNode (omega arith)) (λ _. refl)
+made-node n t y = choose-ind (λ (v : Node). v ≡ emptyNode n t) (inRange y mostBases) (λ Y. let r = within-range y mostBases Y in getD-replicate mostBases (y - 1) (emptyNode n t) noNode (omega arith)) (λ _. refl)
 
 pub stands-made : (n t : ℕ) → Stands (madeNet n t) n t [] (idleNet n t (λ b. 0))
 stands-made n t = record {
@@ -91,7 +91,7 @@ stands-named b v least most {w} {n} {t} {faulty} {W} S = record {
   sized = with-node-sized w b u B (S .sized) (unfold withBase in record { frames = old .frames; heard = old .heard });
 }
   where
-    B : within b mostBases ≡ true
+    B : inRange b mostBases ≡ true
     B = is-within least most
 
     u : Node

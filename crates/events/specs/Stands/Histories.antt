@@ -17,7 +17,7 @@ use Rattle.protocol.specs.Agreement.{BaseOf, Setting, Fresh, Proper, AllProper}
 use Rattle.protocol.specs.Agreement.Besides.{orderly}
 use Rattle.protocol.specs.Agreement.Inner.Moves.{replaced-here}
 use Rattle.protocol.specs.Agreement.Outer.Refusals.{carry-names-broadcast, carry-has-number}
-use Rattle.node.specs.Node.{mostBroadcasts, within}
+use Rattle.node.specs.Node.{mostBroadcasts, inRange}
 use Rattle.node.specs.Node.Within.{is-within}
 use Rattle.net.specs.declared.Net.{Net}
 use Rattle.net.specs.Shown.{shown, faultyOf}
@@ -67,7 +67,7 @@ module _ {n t : ℕ} {faulty : List Pair} {W : Nets.Net} (H : History n t faulty
   here : BaseOf n (at e)
   here = at-proper n e p
 
-  base-within : (b : ℕ) → BaseOf n b → within b mostBases ≡ true
+  base-within : (b : ℕ) → BaseOf n b → inRange b mostBases ≡ true
   base-within b B = is-within (B .least) (omega (arith, B .most, N .most))
 
   room : refusal faulty W e ≡ 0 → length (W .log (at e)) + length (call W e .says) ≤ mostBroadcasts
@@ -95,7 +95,7 @@ module _ {n t : ℕ} {faulty : List Pair} {W : Nets.Net} (H : History n t faulty
     sized = after-sized-net w e (S .sized) B;
   }
     where
-      B : within (at e) mostBases ≡ true
+      B : inRange (at e) mostBases ≡ true
       B = base-within (at e) here
 
       fits : refusal (faultyOf w) (shown w) e ≡ 0 → (length (shown w .log (at e)) + length (call (shown w) e .says) ≤ mostBroadcasts) × HasPlace e

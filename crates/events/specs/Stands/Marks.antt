@@ -1,4 +1,4 @@
--- The marks of carries: one is set, and every other stays as it was.
+-- The markRoom of carries: one is set, and every other stays as it was.
 use Prim.Native.Nat.{ℕ, _-_, _<_}
 use mathlib.Core.Path.{_≡_, refl, sym, ap, _∙_}
 use mathlib.Core.Bool.{Bool, true, false, not}
@@ -13,7 +13,7 @@ use Rattle.limits.specs.Limits.{mostBases}
 use Rattle.lists.specs.Choice.{and, or}
 use Rattle.lists.specs.Choice.Laws.{choose-yes, choose-ind, and-both, and-no, and-fails, or-first}
 use Rattle.node.specs.declared.Node.{Node}
-use Rattle.node.specs.Node.{mostBroadcasts, marks, within, place, logOf, heardBy, marked}
+use Rattle.node.specs.Node.{mostBroadcasts, markRoom, inRange, markPlace, logOf, heardBy, marked}
 use Rattle.node.specs.Node.Memory.{SizedNode}
 use Rattle.node.specs.Node.Within.{within-range}
 
@@ -28,15 +28,15 @@ marked-log v a k = choose-ind (λ (u : Node). logOf u ≡ logOf v) _ (λ _. (unf
 
 pub marked-sized : (v : Node) (a k : ℕ) → SizedNode v → SizedNode (marked v a k)
 unfolding marked
-marked-sized v a k Z = choose-ind SizedNode _ (λ _. record { frames = Z .frames; heard = length-set (v .heard) (place a k) 1 ∙ Z .heard }) (λ _. Z)
+marked-sized v a k Z = choose-ind SizedNode _ (λ _. record { frames = Z .frames; heard = length-set (v .heard) (markPlace a k) 1 ∙ Z .heard }) (λ _. Z)
 
--- ---- each mark has its own place
-place-below : (a k : ℕ) → within a mostBases ≡ true → within k mostBroadcasts ≡ true → place a k < marks
-unfolding place
+-- ---- each mark has its own markPlace
+place-below : (a k : ℕ) → inRange a mostBases ≡ true → inRange k mostBroadcasts ≡ true → markPlace a k < markRoom
+unfolding markPlace
 place-below a k A K = omega (arith, within-range a mostBases A, within-range k mostBroadcasts K)
 
-own-place : (a k x j : ℕ) → within a mostBases ≡ true → within k mostBroadcasts ≡ true → within x mostBases ≡ true → within j mostBroadcasts ≡ true → place x j ≡ place a k → (x ≡ a) × (j ≡ k)
-unfolding place
+own-place : (a k x j : ℕ) → inRange a mostBases ≡ true → inRange k mostBroadcasts ≡ true → inRange x mostBases ≡ true → inRange j mostBroadcasts ≡ true → markPlace x j ≡ markPlace a k → (x ≡ a) × (j ≡ k)
+unfolding markPlace
 own-place a k x j A K X J e =
     let ra = within-range a mostBases A in
     let rk = within-range k mostBroadcasts K in
@@ -50,22 +50,22 @@ unfolding and
 and-same true f = f refl
 and-same false f = refl
 
-pub heard-same : (v u : Node) (x j : ℕ) → (within x mostBases ≡ true → within j mostBroadcasts ≡ true → getD (u .heard) (place x j) 0 ≡ getD (v .heard) (place x j) 0) → heardBy u x j ≡ heardBy v x j
+pub heard-same : (v u : Node) (x j : ℕ) → (inRange x mostBases ≡ true → inRange j mostBroadcasts ≡ true → getD (u .heard) (markPlace x j) 0 ≡ getD (v .heard) (markPlace x j) 0) → heardBy u x j ≡ heardBy v x j
 unfolding heardBy
-heard-same v u x j f = and-same (within x mostBases) (λ X. and-same (within j mostBroadcasts) (λ J. ap (λ (m : ℕ). not (eqb m 0)) (f X J)))
+heard-same v u x j f = and-same (inRange x mostBases) (λ X. and-same (inRange j mostBroadcasts) (λ J. ap (λ (m : ℕ). not (eqb m 0)) (f X J)))
 
-module _ (v : Node) (a k : ℕ) (A : within a mostBases ≡ true) (K : within k mostBroadcasts ≡ true) (Z : SizedNode v) where
-  is-set : marked v a k .heard ≡ set (v .heard) (place a k) 1
+module _ (v : Node) (a k : ℕ) (A : inRange a mostBases ≡ true) (K : inRange k mostBroadcasts ≡ true) (Z : SizedNode v) where
+  is-set : marked v a k .heard ≡ set (v .heard) (markPlace a k) 1
   unfolding marked
   is-set = ap (λ (u : Node). u .heard) (choose-yes _ _ (and-both A K))
 
   here : heardBy (marked v a k) a k ≡ true
   unfolding heardBy
-  here = and-both A (and-both K (ap (λ (h : List ℕ). not (eqb (getD h (place a k) 0) 0)) is-set ∙ ap (λ (m : ℕ). not (eqb m 0)) (getD-set-same (v .heard) (place a k) 1 0 (omega (arith, place-below a k A K, Z .heard)))))
+  here = and-both A (and-both K (ap (λ (h : List ℕ). not (eqb (getD h (markPlace a k) 0) 0)) is-set ∙ ap (λ (m : ℕ). not (eqb m 0)) (getD-set-same (v .heard) (markPlace a k) 1 0 (omega (arith, place-below a k A K, Z .heard)))))
 
   elsewhere : (x j : ℕ) → ((x ≡ a) × (j ≡ k) → ⊥) → heardBy (marked v a k) x j ≡ heardBy v x j
   elsewhere x j apart = heard-same v (marked v a k) x j
-      (λ X J. ap (λ (h : List ℕ). getD h (place x j) 0) is-set ∙ getD-set-other (v .heard) (place a k) (place x j) 1 0 (λ e. apart (own-place a k x j A K X J e)))
+      (λ X J. ap (λ (h : List ℕ). getD h (markPlace x j) 0) is-set ∙ getD-set-other (v .heard) (markPlace a k) (markPlace x j) 1 0 (λ e. apart (own-place a k x j A K X J e)))
 
   pub marked-heard : (x j : ℕ) → heardBy (marked v a k) x j ≡ or (and (eqb x a) (eqb j k)) (heardBy v x j)
   marked-heard x j = elim (ℕ-discrete x a) [

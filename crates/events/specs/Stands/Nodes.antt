@@ -15,7 +15,7 @@ use Rattle.frame.specs.Encoding.{encode}
 use Rattle.protocol.specs.Steps.{Done}
 use Rattle.node.specs.declared.Frame.{Frame}
 use Rattle.node.specs.declared.Node.{Node}
-use Rattle.node.specs.Node.{mostBroadcasts, written, logOf, frameOf, joined, joinedAll, withBase, after}
+use Rattle.node.specs.Node.{mostBroadcasts, written, logOf, storedFrame, joined, joinedAll, withBase, nodeAfter}
 use Rattle.node.specs.Node.Memory.{SizedNode}
 
 -- ---- what joining broadcasts leaves alone
@@ -26,7 +26,7 @@ pub record Same (v u : Node) : Type 0 where
 
 joined-same : (v : Node) (bytes : List ℕ) → Same v (joined v bytes)
 unfolding joined
-joined-same v bytes = choose-ind (Same v) (ltb (v .count) mostBroadcasts) (λ _. record { base = refl; heard = refl; places = length-set (v .frames) (v .count) (frameOf bytes) })
+joined-same v bytes = choose-ind (Same v) (ltb (v .count) mostBroadcasts) (λ _. record { base = refl; heard = refl; places = length-set (v .frames) (v .count) (storedFrame bytes) })
     (λ _. record { base = refl; heard = refl; places = refl })
 
 joined-all-same : (v : Node) (log : List (List ℕ)) → Same v (joinedAll v log)
@@ -41,8 +41,8 @@ same-sized : {v u : Node} → Same v u → SizedNode v → SizedNode u
 same-sized S Z = record { frames = S .places ∙ Z .frames; heard = ap length (S .heard) ∙ Z .heard }
 
 -- ---- the broadcasts
-written-frame : (bytes : List ℕ) → written (frameOf bytes) ≡ bytes
-unfolding written frameOf
+written-frame : (bytes : List ℕ) → written (storedFrame bytes) ≡ bytes
+unfolding written storedFrame
 written-frame bytes = pad-front longestFrame bytes (length bytes) refl
 
 map-snoc : (frames : List Frame) (f : Frame) → map written (frames ++ (f ∷ [])) ≡ map written frames ++ (written f ∷ [])
@@ -57,10 +57,10 @@ joined-log : (v : Node) (bytes : List ℕ) → SizedNode v → length (logOf v) 
 unfolding joined
 joined-log v bytes Z h = ap logOf (choose-yes _ _ (lt-ltb (v .count) mostBroadcasts (counted v Z h))) ∙ stored
   where
-    stored : logOf (record { base = v .base; count = v .count + 1; frames = set (v .frames) (v .count) (frameOf bytes); heard = v .heard }) ≡ logOf v ++ (bytes ∷ [])
+    stored : logOf (record { base = v .base; count = v .count + 1; frames = set (v .frames) (v .count) (storedFrame bytes); heard = v .heard }) ≡ logOf v ++ (bytes ∷ [])
     stored = unfold logOf in rw (add-one (v .count))
-        (ap (map written) (take-suc-set (v .frames) (v .count) (frameOf bytes) (omega (arith, counted v Z h, Z .frames)))
-        ∙ map-snoc (take (v .count) (v .frames)) (frameOf bytes)
+        (ap (map written) (take-suc-set (v .frames) (v .count) (storedFrame bytes) (omega (arith, counted v Z h, Z .frames)))
+        ∙ map-snoc (take (v .count) (v .frames)) (storedFrame bytes)
         ∙ ap (λ (b : List ℕ). map written (take (v .count) (v .frames)) ++ (b ∷ [])) (written-frame bytes))
 
 joined-all-log : (v : Node) (log : List (List ℕ)) → SizedNode v → length (logOf v) + length log ≤ mostBroadcasts → logOf (joinedAll v log) ≡ logOf v ++ log
@@ -74,22 +74,22 @@ joined-all-log v (bytes ∷ log) Z h =
     more one = omega (arith, simp length-append at (ap length one))
 
 -- ---- a call
-pub after-base : (v : Node) (d : Done) → after v d .base ≡ d .base
-unfolding after withBase
+pub after-base : (v : Node) (d : Done) → nodeAfter v d .base ≡ d .base
+unfolding nodeAfter withBase
 after-base v d = joined-all-same (withBase v (d .base)) (map encode (d .says)) .base
 
-pub after-heard : (v : Node) (d : Done) → after v d .heard ≡ v .heard
-unfolding after withBase
+pub after-heard : (v : Node) (d : Done) → nodeAfter v d .heard ≡ v .heard
+unfolding nodeAfter withBase
 after-heard v d = joined-all-same (withBase v (d .base)) (map encode (d .says)) .heard
 
 with-base-sized : (v : Node) (d : Done) → SizedNode v → SizedNode (withBase v (d .base))
 unfolding withBase
 with-base-sized v d Z = record { frames = Z .frames; heard = Z .heard }
 
-pub after-sized : (v : Node) (d : Done) → SizedNode v → SizedNode (after v d)
-unfolding after
+pub after-sized : (v : Node) (d : Done) → SizedNode v → SizedNode (nodeAfter v d)
+unfolding nodeAfter
 after-sized v d Z = same-sized (joined-all-same (withBase v (d .base)) (map encode (d .says))) (with-base-sized v d Z)
 
-pub after-log : (v : Node) (d : Done) → SizedNode v → length (logOf v) + length (d .says) ≤ mostBroadcasts → logOf (after v d) ≡ logOf v ++ map encode (d .says)
-unfolding after
+pub after-log : (v : Node) (d : Done) → SizedNode v → length (logOf v) + length (d .says) ≤ mostBroadcasts → logOf (nodeAfter v d) ≡ logOf v ++ map encode (d .says)
+unfolding nodeAfter
 after-log v d Z h = joined-all-log (withBase v (d .base)) (map encode (d .says)) (with-base-sized v d Z) (unfold withBase logOf in omega (arith, length-map (d .says) encode)) ∙ (unfold withBase logOf in refl)

@@ -17,7 +17,7 @@ use Rattle.protocol.specs.Net.{Event, starts, carry, forge, at, call, refusal, 
 use Rattle.protocol.specs.Net as Nets
 use Rattle.protocol.specs.Agreement.Inner.Moves.{replaced-here, replaced-other}
 use Rattle.node.specs.declared.Node.{Node}
-use Rattle.node.specs.Node.{mostBroadcasts, within, place, logOf, heardBy}
+use Rattle.node.specs.Node.{mostBroadcasts, inRange, markPlace, logOf, heardBy}
 use Rattle.node.specs.Node as Nodes
 use Rattle.node.specs.Node.Memory.{SizedNode}
 use Rattle.net.specs.declared.Net.{Net}
@@ -47,17 +47,17 @@ marks-sized (starts b room) v Z = Z
 marks-sized (carry a b k room) v Z = marked-sized v a k Z
 marks-sized (forge a b bytes room) v Z = Z
 
--- a carry has a place for its mark
+-- a carry has a markPlace for its mark
 abbrev pub HasPlace : Event → Type 0
 HasPlace (starts b room) = Unit {0}
-HasPlace (carry a b k room) = (within a mostBases ≡ true) × (within k mostBroadcasts ≡ true)
+HasPlace (carry a b k room) = (inRange a mostBases ≡ true) × (inRange k mostBroadcasts ≡ true)
 HasPlace (forge a b bytes room) = Unit {0}
 
-after-hears : (v : Node) (d : Done) (x j : ℕ) → heardBy (Nodes.after v d) x j ≡ heardBy v x j
-after-hears v d x j = heard-same v (Nodes.after v d) x j (λ _ _. ap (λ (h : List ℕ). getD h (place x j) 0) (after-heard v d))
+after-hears : (v : Node) (d : Done) (x j : ℕ) → heardBy (Nodes.nodeAfter v d) x j ≡ heardBy v x j
+after-hears v d x j = heard-same v (Nodes.nodeAfter v d) x j (λ _ _. ap (λ (h : List ℕ). getD h (markPlace x j) 0) (after-heard v d))
 
 carried-here : (w : Net) (e : Event) (x j : ℕ) → HasPlace e → SizedNode (nodeAt w (at e))
-    → heardBy (marks e (Nodes.after (nodeAt w (at e)) (call (shown w) e))) x j ≡ carriedAfter (shown w) e x (at e) j
+    → heardBy (marks e (Nodes.nodeAfter (nodeAt w (at e)) (call (shown w) e))) x j ≡ carriedAfter (shown w) e x (at e) j
 unfolding marks at carriedAfter shown
 carried-here w (starts b room) x j P Z = after-hears (nodeAt w b) _ x j
 carried-here w (carry a b k room) x j P Z =
@@ -73,7 +73,7 @@ carried-other W (carry a b k room) x y j ne =
 carried-other W (forge a b bytes room) x y j ne = refl
 
 -- ---- an event that is not turned down
-module _ (w : Net) (e : Event) (Z : SizedNet w) (B : within (at e) mostBases ≡ true) where
+module _ (w : Net) (e : Event) (Z : SizedNet w) (B : inRange (at e) mostBases ≡ true) where
   abbrev v : Node
   v = nodeAt w (at e)
 
@@ -81,7 +81,7 @@ module _ (w : Net) (e : Event) (Z : SizedNet w) (B : within (at e) mostBases ≡
   d = call (shown w) e
 
   abbrev u : Node
-  u = marks e (Nodes.after v d)
+  u = marks e (Nodes.nodeAfter v d)
 
   sized-here : SizedNode v
   sized-here = node-sized w (at e) B Z
@@ -95,11 +95,11 @@ module _ (w : Net) (e : Event) (Z : SizedNet w) (B : within (at e) mostBases ≡
     where
       base : (y : ℕ) → nodeAt (withNode w (at e) u) y .base ≡ replaced (at e) (d .base) (λ z. nodeAt w z .base) y
       base y = ap (λ (x : Node). x .base) (node-now y) ∙ replaced-map (λ (x : Node). x .base) (at e) u (nodeAt w) y
-          ∙ ap (λ x. replaced (at e) x (λ z. nodeAt w z .base) y) (marks-base e (Nodes.after v d) ∙ after-base v d)
+          ∙ ap (λ x. replaced (at e) x (λ z. nodeAt w z .base) y) (marks-base e (Nodes.nodeAfter v d) ∙ after-base v d)
 
       log : (y : ℕ) → logOf (nodeAt (withNode w (at e) u) y) ≡ replaced (at e) (logOf v ++ map encode (d .says)) (λ z. logOf (nodeAt w z)) y
       log y = ap logOf (node-now y) ∙ replaced-map logOf (at e) u (nodeAt w) y
-          ∙ ap (λ x. replaced (at e) x (λ z. logOf (nodeAt w z)) y) (marks-log e (Nodes.after v d) ∙ after-log v d sized-here room)
+          ∙ ap (λ x. replaced (at e) x (λ z. logOf (nodeAt w z)) y) (marks-log e (Nodes.nodeAfter v d) ∙ after-log v d sized-here room)
 
       carried : (x y j : ℕ) → heardBy (nodeAt (withNode w (at e) u) y) x j ≡ carriedAfter (shown w) e x y j
       carried x y j = ap (λ (z : Node). heardBy z x j) (node-now y) ∙ elim (ℕ-discrete y (at e)) [
@@ -121,17 +121,17 @@ module _ (w : Net) (e : Event) (Z : SizedNet w) (B : within (at e) mostBases ≡
 
   pub after-sized-net : SizedNet (after w e)
   unfolding after
-  after-sized-net = choose-ind SizedNet _ (λ _. with-node-sized w (at e) u B Z (marks-sized e (Nodes.after v d) (after-sized v d sized-here))) (λ _. Z)
+  after-sized-net = choose-ind SizedNet _ (λ _. with-node-sized w (at e) u B Z (marks-sized e (Nodes.nodeAfter v d) (after-sized v d sized-here))) (λ _. Z)
 
   pub after-links : faultyOf (after w e) ≡ faultyOf w
   unfolding after
   after-links = choose-ind (λ (x : Net). faultyOf x ≡ faultyOf w) _ (λ _. with-node-links w (at e) u B) (λ _. refl)
 
 -- n and t stay
-pub after-n : (w : Net) (e : Event) → within (at e) mostBases ≡ true → after w e .n ≡ w .n
+pub after-n : (w : Net) (e : Event) → inRange (at e) mostBases ≡ true → after w e .n ≡ w .n
 unfolding after
 after-n w e B = choose-ind (λ (x : Net). x .n ≡ w .n) _ (λ _. ap (λ (x : Net). x .n) (with-node-is w (at e) _ B)) (λ _. refl)
 
-pub after-t : (w : Net) (e : Event) → within (at e) mostBases ≡ true → after w e .t ≡ w .t
+pub after-t : (w : Net) (e : Event) → inRange (at e) mostBases ≡ true → after w e .t ≡ w .t
 unfolding after
 after-t w e B = choose-ind (λ (x : Net). x .t ≡ w .t) _ (λ _. ap (λ (x : Net). x .t) (with-node-is w (at e) _ B)) (λ _. refl)

@@ -16,7 +16,7 @@ use Rattle.protocol.specs.Net.{replaced}
 use Rattle.protocol.specs.Net as Nets
 use Rattle.protocol.specs.Agreement.Inner.Moves.{replaced-here, replaced-other}
 use Rattle.node.specs.declared.Node.{Node}
-use Rattle.node.specs.Node.{within}
+use Rattle.node.specs.Node.{inRange}
 use Rattle.node.specs.Node.Memory.{SizedNode}
 use Rattle.node.specs.Node.Within.{within-range}
 use Rattle.net.specs.declared.Net.{Net}
@@ -46,7 +46,7 @@ net-same U W b l c =
     ∙ ap (λ (f : ℕ → ℕ → ℕ → Bool). record { base = W .base; log = W .log; carried = f }) (fun-ext (λ x. fun-ext (λ y. fun-ext (c x y))))
 
 -- ---- a base is replaced
-module _ (w : Net) (b : ℕ) (v : Node) (B : within b mostBases ≡ true) where
+module _ (w : Net) (b : ℕ) (v : Node) (B : inRange b mostBases ≡ true) where
   pub with-node-is : withNode w b v ≡ record { n = w .n; t = w .t; faulty = w .faulty; nodes = set (w .nodes) (b - 1) v }
   unfolding withNode
   with-node-is = choose-yes _ _ B
@@ -58,7 +58,7 @@ module _ (w : Net) (b : ℕ) (v : Node) (B : within b mostBases ≡ true) where
   unfolding nodeAt
   replaced-node Z y = elim (ℕ-discrete y b) [
     | yes p ↦ rw p (choose-yes _ _ B ∙ getD-set-same (w .nodes) (b - 1) v noNode (omega (arith, range, Z)) ∙ sym (replaced-here b v (nodeAt w)))
-    | no p ↦ choose-same (within y mostBases) (emptyNode (w .n) (w .t)) (λ Y. getD-set-other (w .nodes) (b - 1) (y - 1) v noNode (apart p (within-range y mostBases Y))) ∙ sym (replaced-other b v (nodeAt w) y p)
+    | no p ↦ choose-same (inRange y mostBases) (emptyNode (w .n) (w .t)) (λ Y. getD-set-other (w .nodes) (b - 1) (y - 1) v noNode (apart p (within-range y mostBases Y))) ∙ sym (replaced-other b v (nodeAt w) y p)
   ]
     where
       apart : y ≢ b → (1 ≤ y) × (y ≤ mostBases) → y - 1 ≢ b - 1
@@ -80,6 +80,6 @@ module _ (w : Net) (b : ℕ) (v : Node) (B : within b mostBases ≡ true) where
   unfolding faultyOf
   with-node-links = ap faultyOf with-node-is
 
-pub node-sized : (w : Net) (b : ℕ) → within b mostBases ≡ true → SizedNet w → SizedNode (nodeAt w b)
+pub node-sized : (w : Net) (b : ℕ) → inRange b mostBases ≡ true → SizedNet w → SizedNode (nodeAt w b)
 unfolding nodeAt
 node-sized w b B Z = let r = within-range b mostBases B in subst SizedNode (sym (choose-yes (getD (w .nodes) (b - 1) noNode) (emptyNode (w .n) (w .t)) B)) (Z .each (b - 1) (omega arith))

@@ -41,22 +41,25 @@ over-past bytes output k h =
     ∙ drop-drop (k - length bytes) (length bytes) output)
 
 -- bytes stored right behind those at the front
-pub over-then : (front back output after new : List ℕ) (k j : ℕ) → k ≡ length front → j ≡ k + length back → after ≡ over front output → new ≡ take k after ++ (back ++ drop j after)
-    → new ≡ over (front ++ back) output
+pub over-then : (front back output after new : List ℕ) (k j : ℕ) → k ≡ length front → j ≡ k + length back → after ≡ over front output
+    → new ≡ take k after ++ (back ++ drop j after) → new ≡ over (front ++ back) output
 unfolding over
 over-then front back output after new k j e f p q =
     let t : take k after ≡ front = rw p (take-at front (drop (length front) output) k (sym e)) in
     let d : drop k after ≡ drop (length front) output = rw p (drop-at front (drop (length front) output) k (sym e)) in
-    let r : drop j after ≡ drop (length front + length back) output = ap (λ (i : ℕ). drop i after) f ∙ sym (drop-drop (length back) k after) ∙ ap (drop (length back)) d ∙ drop-drop (length back) (length front) output in
+    let r : drop j after ≡ drop (length front + length back) output =
+    ap (λ (i : ℕ). drop i after) f ∙ sym (drop-drop (length back) k after) ∙ ap (drop (length back)) d
+    ∙ drop-drop (length back) (length front) output in
     q ∙ rw (t, r, length-append front back) (sym (append-assoc front back (drop (length front + length back) output)))
 
 -- bytes written into the rest of an output, behind those at its front
-pub over-rest : (front back output after rest : List ℕ) (r k : ℕ) → r ≡ length front → k ≡ length after - r → after ≡ over front output → rest ≡ over back (take k (drop r after))
-    → take r after ++ (rest ++ drop k (drop r after)) ≡ over (front ++ back) output
+pub over-rest : (front back output after rest : List ℕ) (r k : ℕ) → r ≡ length front → k ≡ length after - r → after ≡ over front output
+    → rest ≡ over back (take k (drop r after)) → take r after ++ (rest ++ drop k (drop r after)) ≡ over (front ++ back) output
 unfolding over
 over-rest front back output after rest r k e f p q =
     let t : take r after ≡ front = rw p (take-at front (drop (length front) output) r (sym e)) in
     let d : drop r after ≡ drop (length front) output = rw p (drop-at front (drop (length front) output) r (sym e)) in
     let z : drop k (drop r after) ≡ [] = drop-of-length-le (drop r after) {i = k} (omega (arith, length-drop r after)) in
     let y : take k (drop r after) ≡ drop r after = take-all k (drop r after) (omega (arith, length-drop r after)) in
-    rw (z, q, y, t, d, append-nil, drop-drop (length back) (length front) output, length-append front back) (sym (append-assoc front back (drop (length front + length back) output)))
+    rw (z, q, y, t, d, append-nil, drop-drop (length back) (length front) output, length-append front back)
+    (sym (append-assoc front back (drop (length front + length back) output)))

@@ -1,26 +1,29 @@
 -- What stands in a burst that is a preamble and a frame, and what a burst that is not turned down is made of.
 use Prim.Native.Nat.{ℕ, zero, suc, _+_, _*_, _-_, _/_, _%_, _^_, _≤_, _<_}
 use mathlib.Core.Path.{_≡_, refl, sym, ap, ap₂, _∙_}
-use mathlib.Core.Bool.{true, not}
+use mathlib.Core.Logic.{inl, inr}
+use mathlib.Core.Bool.{true, false, not}
 use mathlib.Core.List.{List, [], _∷_, _++_, append-assoc, append-nil}
 use native.Mathlib.Nat.{add-zero, div-div-eq-div-mul, div-add-mod, mod-eq-of-lt}
 use native.Mathlib.Decide.{decLt}
 use native.Mathlib.Omega.{arith}
-use borrow.Author.Tests.{ltb-false, eqb-true, not-false}
+use borrow.Author.Tests.{eq-eqb, ne-eqb, ltb-false, eqb-true, not-false}
 use lib.Dec.{eqb, ltb}
 use lib.ListN.{length, take, drop, getD, length-append, length-take, length-drop, take-append-drop, drop-of-length-le, List·getD-eq-default}
 use lib.Seq.{take-at, drop-at, drop-cons, drop-drop, getD-drop, getD-take, getD-append-add}
 use Rattle.limits.specs.Limits.{mostBases, frameBytes, shortestBurst, longestBurst}
-use Rattle.lists.specs.Choice.{first}
-use Rattle.lists.specs.Choice.Laws.{passed, or-false, first-passed}
+use Rattle.lists.specs.Choice.{choose, or, first}
+use Rattle.lists.specs.Choice.Laws.{choose-yes, choose-no, passes, passed, or-false, first-passed}
 use Rattle.lists.specs.Lists.{nonzero, ascending, Below}
 use Rattle.limits.specs.Refusals.{NetSize, netRefusal}
 use Rattle.limits.specs.Refusals.Laws.{net-passed}
-use Rattle.frame.specs.Message.{known, expected}
-use Rattle.frame.specs.Message.Laws.{expected-range}
+use Rattle.frame.specs.Message.{holdsOne, holdsAll, known, expected, lengthOf}
+use Rattle.frame.specs.Message.Laws.{expected-range, expected-cases, length-known}
 use Rattle.frame.specs.Encoding.{twoBytes, fourBytes, body, trailer, frameOf}
 use Rattle.frame.specs.Encoding.Laws.{length-body, length-frame}
-use Rattle.frame.specs.Reading.{fromEnd, kindByte, countByte, backDistance, bodyStart, bodyOf, preamble, identifier, identifiers, idsIn, trailerRefusal, listRefusal, burstRefusal, readRefusal}
+use Rattle.frame.specs.Reading.{fromEnd, kindByte, countByte, backDistance, bodyStart, bodyOf, preamble, identifier, identifiers}
+use Rattle.frame.specs.Reading.{idsIn, lengthRefusal, kindRefusal, distanceRefusal, trailerRefusal, listRefusal, burstRefusal}
+use Rattle.frame.specs.Reading.{readRefusal}
 
 -- ---- bytes and identifiers
 pub identifier-of-bytes : (x : ℕ) (rest : List ℕ) → x < 2 ^ 32 → identifier (fourBytes x ++ rest) ≡ x
@@ -36,7 +39,8 @@ identifier-of-bytes x rest h =
     digits : (x y z w a b c : ℕ) → x ≡ 256 * y + a → y ≡ 256 * z + b → z ≡ 256 * w + c → w * 16777216 + c * 65536 + b * 256 + a ≡ x
     digits x y z w a b c p q r = omega arith
 
-pub bytes-of-identifier : (a b c d : ℕ) → a < 256 → b < 256 → c < 256 → d < 256 → fourBytes (a * 16777216 + b * 65536 + c * 256 + d) ≡ a ∷ (b ∷ (c ∷ (d ∷ [])))
+pub bytes-of-identifier : (a b c d : ℕ) → a < 256 → b < 256 → c < 256 → d < 256
+    → fourBytes (a * 16777216 + b * 65536 + c * 256 + d) ≡ a ∷ (b ∷ (c ∷ (d ∷ [])))
 unfolding fourBytes
 bytes-of-identifier a b c d p q r s =
     let e₁ : (a * 16777216 + b * 65536 + c * 256 + d) / 16777216 % 256 ≡ a = omega arith in
@@ -51,7 +55,8 @@ identifiers-of-body [] rest h = refl
 identifiers-of-body (x ∷ xs) rest h =
     rw (append-assoc (fourBytes x) (body xs) rest)
     (ap₂ _∷_ (identifier-of-bytes x (body xs ++ rest) (h 0))
-    (ap (identifiers (length xs)) (drop-at (fourBytes x) (body xs ++ rest) 4 (unfold fourBytes in refl)) ∙ identifiers-of-body xs rest (λ i. h (suc i))))
+    (ap (identifiers (length xs)) (drop-at (fourBytes x) (body xs ++ rest) 4 (unfold fourBytes in refl))
+    ∙ identifiers-of-body xs rest (λ i. h (suc i))))
 
 pub length-identifiers : (k : ℕ) (s : List ℕ) → length (identifiers k s) ≡ k
 unfolding identifiers
@@ -84,7 +89,8 @@ length-ids-in s = length-identifiers (countByte s) (bodyOf s)
 
 pub below-ids-in : (s : List ℕ) → Below 256 s → Below (2 ^ 32) (idsIn s)
 unfolding idsIn bodyOf
-below-ids-in s h = below-identifiers (countByte s) (bodyOf s) (below-take 256 (4 * countByte s) (drop (bodyStart s) s) (below-drop 256 (bodyStart s) s h))
+below-ids-in s h =
+    below-identifiers (countByte s) (bodyOf s) (below-take 256 (4 * countByte s) (drop (bodyStart s) s) (below-drop 256 (bodyStart s) s h))
 
 -- the bytes of the identifiers that were read
 four-off : (s : List ℕ) → 4 ≤ length s → s ≡ getD s 0 0 ∷ (getD s 1 0 ∷ (getD s 2 0 ∷ (getD s 3 0 ∷ drop 4 s)))
@@ -142,12 +148,59 @@ module _ (pre : List ℕ) (kind : ℕ) (ids : List ℕ) (few : length ids ≤ mo
   pub body-is : bodyOf burst ≡ body ids
   unfolding bodyOf frameOf
   body-is =
-      ap₂ take (ap (λ (z : ℕ). 4 * z) count-is ∙ sym (length-body ids)) (ap (λ (z : ℕ). drop z burst) start-is ∙ drop-at pre (body ids ++ trailer kind (length ids)) (length pre) refl)
+      ap₂ take (ap (λ (z : ℕ). 4 * z) count-is ∙ sym (length-body ids))
+      (ap (λ (z : ℕ). drop z burst) start-is ∙ drop-at pre (body ids ++ trailer kind (length ids)) (length pre) refl)
       ∙ take-at (body ids) (trailer kind (length ids)) (length (body ids)) refl
 
   pub ids-are : Below (2 ^ 32) ids → idsIn burst ≡ ids
   unfolding idsIn
   ids-are h = ap₂ identifiers count-is (body-is ∙ sym (append-nil (body ids))) ∙ identifiers-of-body ids [] h
+
+-- ---- numbers 8 and 9
+pub kind-unknown : (n kind count : ℕ) → known kind ≡ false → kindRefusal n kind count ≡ 8
+unfolding kindRefusal
+kind-unknown n kind count e = choose-yes 8 _ (ap not e)
+
+module _ (n kind count : ℕ) (k : known kind ≡ true) where
+  pub kind-count : (count ≡ expected kind n → ⊥) → kindRefusal n kind count ≡ 9
+  unfolding kindRefusal
+  kind-count e = choose-no 8 _ (ap not k) ∙ choose-yes 9 0 (ap not (ne-eqb count (expected kind n) e))
+
+  pub kind-passes : count ≡ expected kind n → kindRefusal n kind count ≡ 0
+  unfolding kindRefusal
+  kind-passes e = passes 8 (ap not k) (passes 9 (ap not (eq-eqb count (expected kind n) e)) refl)
+
+pub kind-passed : (n kind count : ℕ) → kindRefusal n kind count ≡ 0 → (known kind ≡ true) × (count ≡ expected kind n)
+unfolding kindRefusal
+kind-passed n kind count e =
+    let p8 = passed _ 7 _ e in
+    (not-false (known kind) (p8 .0), eqb-true count (expected kind n) (not-false _ (passed _ 8 _ (p8 .1) .0)))
+
+-- each kind with the count that it holds
+pub announce-kind : (n : ℕ) → kindRefusal n 1 1 ≡ 0
+unfolding known holdsOne holdsAll expected or choose
+announce-kind n = kind-passes n 1 1 refl refl
+
+pub verify-kind : (n : ℕ) → kindRefusal n 2 1 ≡ 0
+unfolding known holdsOne holdsAll expected or choose
+verify-kind n = kind-passes n 2 1 refl refl
+
+pub correct-final-kind : (n : ℕ) → kindRefusal n 3 n ≡ 0
+unfolding known holdsOne holdsAll expected or choose
+correct-final-kind n = kind-passes n 3 n refl refl
+
+pub verify-final-kind : (n : ℕ) → kindRefusal n 4 n ≡ 0
+unfolding known holdsOne holdsAll expected or choose
+verify-final-kind n = kind-passes n 4 n refl refl
+
+-- a message of a kind that there is and of its count: its frame's length, and a bound on the count
+pub kind-size : (n kind count : ℕ) → kindRefusal n kind count ≡ 0 → lengthOf kind n ≡ frameBytes count
+kind-size n kind count e = let p = kind-passed n kind count e in length-known kind n (p .0) ∙ ap frameBytes (sym (p .1))
+
+pub kind-few : (n kind count most : ℕ) → kindRefusal n kind count ≡ 0 → 1 ≤ most → n ≤ most → count ≤ most
+kind-few n kind count most e one all =
+    let p = kind-passed n kind count e .1 in
+    elim (expected-cases kind n) [ inl q ↦ omega (arith, p, q) | inr q ↦ omega (arith, p, q) ]
 
 -- ---- what a burst that is not turned down is made of
 pub record Passed (n : ℕ) (s : List ℕ) : Type 0 where
@@ -158,22 +211,33 @@ pub record Passed (n : ℕ) (s : List ℕ) : Type 0 where
   pub back : backDistance s ≡ frameBytes (countByte s)
   pub inside : backDistance s ≤ length s
 
+pub length-passed : (s : List ℕ) → lengthRefusal s ≡ 0 → (shortestBurst ≤ length s) × (length s ≤ longestBurst)
+unfolding lengthRefusal
+length-passed s e =
+    let p = or-false (ltb (length s) shortestBurst) (ltb longestBurst (length s)) (passed _ 6 _ e .0) in
+    (ltb-false (length s) shortestBurst (p .0), ltb-false longestBurst (length s) (p .1))
+
+pub distance-passed : (s : List ℕ) → distanceRefusal s ≡ 0 → (backDistance s ≡ frameBytes (countByte s)) × (backDistance s ≤ length s)
+unfolding distanceRefusal
+distance-passed s e =
+    let p = or-false (not (eqb (backDistance s) (frameBytes (countByte s)))) (ltb (length s) (backDistance s)) (passed _ 9 _ e .0) in
+    (eqb-true (backDistance s) (frameBytes (countByte s)) (not-false _ (p .0)), ltb-false (length s) (backDistance s) (p .1))
+
 pub trailer-passed : (n : ℕ) (s : List ℕ) → trailerRefusal n s ≡ 0 → Passed n s
 unfolding trailerRefusal
 trailer-passed n s e =
-    let p7 = passed _ 6 _ e in
-    let p8 = passed _ 7 _ (p7 .1) in
-    let p9 = passed _ 8 _ (p8 .1) in
-    let p10 = passed _ 9 _ (p9 .1) in
-    let size = or-false (ltb (length s) shortestBurst) (ltb longestBurst (length s)) (p7 .0) in
-    let distance = or-false (not (eqb (backDistance s) (frameBytes (countByte s)))) (ltb (length s) (backDistance s)) (p10 .0) in
+    let p = first-passed _ _ e in
+    let q = first-passed _ _ (p .1) in
+    let size = length-passed s (p .0) in
+    let kind = kind-passed n (kindByte s) (countByte s) (q .0) in
+    let distance = distance-passed s (q .1) in
     record {
-      long = ltb-false (length s) shortestBurst (size .0);
-      short = ltb-false longestBurst (length s) (size .1);
-      kind = not-false (known (kindByte s)) (p8 .0);
-      count = eqb-true (countByte s) (expected (kindByte s) n) (not-false _ (p9 .0));
-      back = eqb-true (backDistance s) (frameBytes (countByte s)) (not-false _ (distance .0));
-      inside = ltb-false (length s) (backDistance s) (distance .1);
+      long = size .0;
+      short = size .1;
+      kind = kind .0;
+      count = kind .1;
+      back = distance .0;
+      inside = distance .1;
     }
 
 -- a burst that holds a whole frame of a list that fits, whatever its identifiers are
@@ -215,7 +279,8 @@ last-four s h =
 
 pub length-body-of : (s : List ℕ) → Framed s → length (bodyOf s) ≡ 4 * countByte s
 unfolding bodyOf bodyStart
-length-body-of s F = omega (arith, F, length-take (4 * countByte s) (drop (length s - backDistance s) s), length-drop (length s - backDistance s) s)
+length-body-of s F =
+    omega (arith, F, length-take (4 * countByte s) (drop (length s - backDistance s) s), length-drop (length s - backDistance s) s)
 
 module _ (s : List ℕ) (bytes : Below 256 s) (F : Framed s) where
   trailer-of : drop (length s - 4) s ≡ trailer (kindByte s) (countByte s)
@@ -234,17 +299,25 @@ module _ (s : List ℕ) (bytes : Below 256 s) (F : Framed s) where
   pub burst-of : s ≡ preamble s ++ frameOf (kindByte s) (idsIn s)
   unfolding preamble frameOf idsIn
   burst-of =
-      sym (take-append-drop (bodyStart s) s) ∙ ap (λ (l : List ℕ). take (bodyStart s) s ++ l)
-      (sym (take-append-drop (4 * countByte s) (drop (bodyStart s) s)) ∙ ap₂ _++_ front (drop-drop (4 * countByte s) (bodyStart s) s ∙ ap (λ (k : ℕ). drop k s) end ∙ trailer-of ∙ ap (trailer (kindByte s)) (sym (length-identifiers (countByte s) (bodyOf s)))))
+      sym (take-append-drop (bodyStart s) s)
+      ∙ ap (λ (l : List ℕ). take (bodyStart s) s ++ l)
+      (sym (take-append-drop (4 * countByte s) (drop (bodyStart s) s))
+      ∙ ap₂ _++_ front
+      (drop-drop (4 * countByte s) (bodyStart s) s ∙ ap (λ (k : ℕ). drop k s) end ∙ trailer-of
+      ∙ ap (trailer (kindByte s)) (sym (length-identifiers (countByte s) (bodyOf s)))))
     where
       end : bodyStart s + 4 * countByte s ≡ length s - 4
       end = unfold bodyStart in omega (arith, F)
 
       front : take (4 * countByte s) (drop (bodyStart s) s) ≡ body (identifiers (countByte s) (bodyOf s))
-      front = unfold bodyOf in sym (body-of-identifiers (countByte s) (bodyOf s) (below-take 256 (4 * countByte s) (drop (bodyStart s) s) (below-drop 256 (bodyStart s) s bytes)) (length-body-of s F))
+      front =
+          unfold bodyOf in sym
+          (body-of-identifiers (countByte s) (bodyOf s)
+          (below-take 256 (4 * countByte s) (drop (bodyStart s) s) (below-drop 256 (bodyStart s) s bytes)) (length-body-of s F))
 
 -- ---- identifiers one by one
-pub identifier-there : (s : List ℕ) (at : ℕ) → getD s at 0 * 16777216 + getD s (at + 1) 0 * 65536 + getD s (at + 2) 0 * 256 + getD s (at + 3) 0 ≡ identifier (drop at s)
+pub identifier-there : (s : List ℕ) (at : ℕ)
+    → getD s at 0 * 16777216 + getD s (at + 1) 0 * 65536 + getD s (at + 2) 0 * 256 + getD s (at + 3) 0 ≡ identifier (drop at s)
 unfolding identifier
 identifier-there s at = simp (getD-drop, add-zero)
 
@@ -253,7 +326,9 @@ unfolding identifiers
 identifiers-snoc zero s = refl
 identifiers-snoc (suc i) s =
     let e : 4 * suc i ≡ 4 + 4 * i = omega arith in
-    ap (λ (l : List ℕ). identifier s ∷ l) (identifiers-snoc i (drop 4 s) ∙ ap (λ (l : List ℕ). identifiers i (drop 4 s) ++ (identifier l ∷ [])) (drop-drop (4 * i) 4 s ∙ ap (λ (k : ℕ). drop k s) (sym e)))
+    ap (λ (l : List ℕ). identifier s ∷ l)
+    (identifiers-snoc i (drop 4 s)
+    ∙ ap (λ (l : List ℕ). identifiers i (drop 4 s) ++ (identifier l ∷ [])) (drop-drop (4 * i) 4 s ∙ ap (λ (k : ℕ). drop k s) (sym e)))
 
 -- ---- a reading that is not turned down
 pub read-passed : (n : ℕ) (s : List ℕ) → readRefusal n s ≡ 0 → Framed s

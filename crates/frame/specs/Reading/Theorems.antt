@@ -18,15 +18,18 @@ use Rattle.frame.specs.Message.{Message, announce, verify, correctFinal,
 use Rattle.frame.specs.Message.Laws.{known-kind, known-is, Kind, expected-range, expected-cases}
 use Rattle.frame.specs.Encoding.{body, frameOf, encode}
 use Rattle.frame.specs.Encoding.Laws.{length-frame}
-use Rattle.frame.specs.Reading.{kindByte, countByte, backDistance, bodyOf, bodyStart, preamble, identifiers, idsIn, trailerRefusal, listRefusal, burstRefusal, readRefusal, message, messageOf}
-use Rattle.frame.specs.Reading.Laws.{length-burst, kind-is, count-is, back-is, start-is, body-is, ids-are, trailer-passed, list-passed, passed-framed, burst-of, length-ids-in, below-ids-in}
+use Rattle.frame.specs.Reading.{kindByte, countByte, backDistance, bodyOf, bodyStart, preamble, identifiers, idsIn, lengthRefusal}
+use Rattle.frame.specs.Reading.{kindRefusal, distanceRefusal, trailerRefusal, listRefusal, burstRefusal, readRefusal, message}
+use Rattle.frame.specs.Reading.{messageOf}
+use Rattle.frame.specs.Reading.Laws.{length-burst, kind-is, count-is, back-is, start-is, body-is, ids-are, kind-passes}
+use Rattle.frame.specs.Reading.Laws.{trailer-passed, list-passed, passed-framed, burst-of, length-ids-in, below-ids-in}
 
 -- ---- sizes
 -- every encoding is 8 or 4n + 4 bytes
 pub encoding-size : (n : ℕ) (m : Message) → Valid n m → (length (encode m) ≡ frameBytes 1) ⊎ (length (encode m) ≡ frameBytes n)
 unfolding encode
 encoding-size n m v =
-    let e : length (frameOf (kindOf m) (idsOf m)) ≡ frameBytes (expected (kindOf m) n) = length-frame (kindOf m) (idsOf m) ∙ ap frameBytes (v .count) in
+    let e = length-frame (kindOf m) (idsOf m) ∙ ap frameBytes (v .count) in
     elim (expected-cases (kindOf m) n) [ inl p ↦ inl (e ∙ ap frameBytes p) | inr p ↦ inr (e ∙ ap frameBytes p) ]
 
 -- ---- read after write
@@ -37,6 +40,10 @@ pub record ReadsBack (n : ℕ) (pre : List ℕ) (m : Message) : Type 0 where
   pub same-body : bodyOf (pre ++ encode m) ≡ body (idsOf m)
   pub body-place : bodyStart (pre ++ encode m) ≡ length pre
 
+-- a valid message has a kind that there is, and its count
+pub message-kind : (n : ℕ) (m : Message) → Valid n m → kindRefusal n (kindOf m) (length (idsOf m)) ≡ 0
+message-kind n m v = kind-passes n (kindOf m) (length (idsOf m)) (known-kind m) (v .count)
+
 message-parts : (m : Message) → message (kindOf m) (idsOf m) ≡ m
 unfolding message kindOf idsOf choose
 message-parts (announce g) = refl
@@ -46,23 +53,25 @@ message-parts (verifyFinal v) = refl
 
 module _ (n : ℕ) (N : NetSize n) (pre : List ℕ) (m : Message) (v : Valid n m) (fit : length (pre ++ encode m) ≤ longestBurst) where
   range : (1 ≤ length (idsOf m)) × (length (idsOf m) ≤ mostBases)
-  range = let r = expected-range (kindOf m) n mostBases (omega (arith, N .least)) (N .most) in (omega (arith, r .0, v .count), omega (arith, r .1, v .count))
+  range =
+      let r = expected-range (kindOf m) n mostBases (omega (arith, N .least)) (N .most) in
+      (omega (arith, r .0, v .count), omega (arith, r .1, v .count))
 
   abbrev s : List ℕ
   s = pre ++ frameOf (kindOf m) (idsOf m)
 
   trailer-passes : trailerRefusal n s ≡ 0
-  unfolding trailerRefusal encode
+  unfolding trailerRefusal lengthRefusal distanceRefusal encode
   trailer-passes =
       let len = length-burst pre (kindOf m) (idsOf m) (range .1) in
       let kind = kind-is pre (kindOf m) (idsOf m) (range .1) in
       let count = count-is pre (kindOf m) (idsOf m) (range .1) in
       let back = back-is pre (kindOf m) (idsOf m) (range .1) in
-      passes 7 (or-neither (le-ltb (length s) shortestBurst (omega (arith, len, range .0))) (le-ltb longestBurst (length s) fit))
-      (passes 8 (ap not (ap known kind ∙ known-kind m))
-      (passes 9 (ap not (eq-eqb (countByte s) (expected (kindByte s) n) (count ∙ v .count ∙ ap (λ (k : ℕ). expected k n) (sym kind))))
-      (passes 10 (or-neither (ap not (eq-eqb (backDistance s) (frameBytes (countByte s)) (back ∙ ap frameBytes (sym count)))) (le-ltb (length s) (backDistance s) (omega (arith, back, len))))
-      refl)))
+      let long = le-ltb (length s) shortestBurst (omega (arith, len, range .0)) in
+      let distance = eq-eqb (backDistance s) (frameBytes (countByte s)) (back ∙ ap frameBytes (sym count)) in
+      first-none _ (passes 7 (or-neither long (le-ltb longestBurst (length s) fit)) refl)
+      ∙ first-none _ (ap₂ (kindRefusal n) kind count ∙ message-kind n m v)
+      ∙ passes 10 (or-neither (ap not distance) (le-ltb (length s) (backDistance s) (omega (arith, back, len)))) refl
 
   list-passes : listRefusal (idsIn s) ≡ 0
   unfolding listRefusal
@@ -73,8 +82,12 @@ module _ (n : ℕ) (N : NetSize n) (pre : List ℕ) (m : Message) (v : Valid n m
   pub read-after-write : ReadsBack n pre m
   unfolding encode readRefusal burstRefusal messageOf
   read-after-write = record {
-    accepted = first-none (first (trailerRefusal n s) (listRefusal (idsIn s))) (net-passes N) ∙ first-none (listRefusal (idsIn s)) trailer-passes ∙ list-passes;
-    same-message = ap₂ message (kind-is pre (kindOf m) (idsOf m) (range .1)) (ids-are pre (kindOf m) (idsOf m) (range .1) (v .words)) ∙ message-parts m;
+    accepted =
+        first-none (first (trailerRefusal n s) (listRefusal (idsIn s))) (net-passes N) ∙ first-none (listRefusal (idsIn s)) trailer-passes
+        ∙ list-passes;
+    same-message =
+        ap₂ message (kind-is pre (kindOf m) (idsOf m) (range .1)) (ids-are pre (kindOf m) (idsOf m) (range .1) (v .words))
+        ∙ message-parts m;
     same-body = body-is pre (kindOf m) (idsOf m) (range .1);
     body-place = start-is pre (kindOf m) (idsOf m) (range .1);
   }
@@ -86,7 +99,8 @@ one-identifier (x ∷ []) e = refl
 one-identifier (x ∷ (y ∷ l)) e = absurd (omega arith)
 
 -- a known kind and as many identifiers as it holds are those of the message that they make
-pub parts-message : (kind n : ℕ) (ids : List ℕ) → Kind kind → length ids ≡ expected kind n → (kindOf (message kind ids) ≡ kind) × (idsOf (message kind ids) ≡ ids)
+pub parts-message : (kind n : ℕ) (ids : List ℕ) → Kind kind → length ids ≡ expected kind n
+    → (kindOf (message kind ids) ≡ kind) × (idsOf (message kind ids) ≡ ids)
 unfolding message kindOf idsOf choose expected holdsOne or
 parts-message kind n ids (inl e) h = rw e (refl, one-identifier ids (h ∙ ap (λ (k : ℕ). expected k n) e))
 parts-message kind n ids (inr (inl e)) h = rw e (refl, one-identifier ids (h ∙ ap (λ (k : ℕ). expected k n) e))
@@ -125,7 +139,10 @@ module _ (n : ℕ) (N : NetSize n) (s : List ℕ) (bytes : Below 256 s) where
       }
 
   pub sent-accepted : Sent n s → readRefusal n s ≡ 0
-  sent-accepted S = ap (readRefusal n) (S .is) ∙ read-after-write n N (S .before) (S .message) (S .valid) (subst (λ (l : List ℕ). length l ≤ longestBurst) (S .is) (S .fits)) .accepted
+  sent-accepted S =
+      ap (readRefusal n) (S .is)
+      ∙ read-after-write n N (S .before) (S .message) (S .valid)
+      (subst (λ (l : List ℕ). length l ≤ longestBurst) (S .is) (S .fits)) .accepted
 
   -- a burst is accepted exactly if it is some preamble and the encoding of a valid message
   pub accepted-exactly : (readRefusal n s ≡ 0) ↔ Sent n s
@@ -133,4 +150,8 @@ module _ (n : ℕ) (N : NetSize n) (s : List ℕ) (bytes : Below 256 s) where
 
 -- and that message is unique: it is the one that is read
 pub message-unique : (n : ℕ) → NetSize n → (s : List ℕ) (S : Sent n s) → S .message ≡ messageOf s
-message-unique n N s S = sym (ap messageOf (S .is) ∙ read-after-write n N (S .before) (S .message) (S .valid) (subst (λ (l : List ℕ). length l ≤ longestBurst) (S .is) (S .fits)) .same-message)
+message-unique n N s S =
+    sym
+    (ap messageOf (S .is)
+    ∙ read-after-write n N (S .before) (S .message) (S .valid)
+    (subst (λ (l : List ℕ). length l ≤ longestBurst) (S .is) (S .fits)) .same-message)

@@ -4,14 +4,14 @@ use Prim.Native.Nat.{_≤_}
 use mathlib.Core.Path.{sym, subst}
 use lib.ListN.{length}
 use lib.Seq.{length-take-le}
-use Rattle.input.specs.Within.{Within}
+use Rattle.input.specs.Within.{ReadWithin}
 use borrow.Author.Needs.{needs}
 use Rattle.hillreplay.proofs.main.Statement.{statement}
 use Rattle.hillreplay.proofs.main.Tie as tie
 
 -- what was read fits the buffer
 fits : (c : tie.After-known-told) → c .before .length .given .0 .0 ≤ length (c .before .before .before .before .read-input .last .0)
-fits c = let w = subst (Within _) (c .before .length .given .1) (c .before .before .before .before .read-input .ensures) in omega (arith, w, c .before .before .before .before .read-input .kept .0)
+fits c = let w = subst (ReadWithin _) (c .before .length .given .1) (c .before .before .before .before .read-input .ensures) in omega (arith, w, c .before .before .before .before .read-input .kept .0)
 
 arg-count-requires : tie.Need-arg-count-requires
 arg-count-requires c κs = search needs

@@ -4,7 +4,7 @@ use borrow.Author.Needs.{needs}
 use Prim.Native.Nat.{_≤_, _-_}
 use mathlib.Core.Path.{_≡_, refl, _∙_, subst}
 use lib.ListN.{length}
-use Rattle.input.specs.Within.{Within}
+use Rattle.input.specs.Within.{ReadWithin}
 use Rattle.input.proofs.read_input.Statement.{statement}
 use Rattle.input.proofs.read_input.Tie as tie
 
@@ -16,7 +16,7 @@ abbrev μ-loop : tie.MeasureT-loop
 
 -- what was read fits
 fits : (c : tie.After-known-told Inv-loop μ-loop) → c .before .now .given .0 .0 ≤ length (c .before .before .before .before .before .before .before .before .loop .buffer)
-fits c = subst (Within (length (c .before .before .before .before .before .before .before .before .loop .buffer))) (c .before .now .given .1) (c .before .before .before .before .before .read-more .ensures)
+fits c = subst (ReadWithin (length (c .before .before .before .before .before .before .before .before .loop .buffer))) (c .before .now .given .1) (c .before .before .before .before .before .read-more .ensures)
 
 loop-holds : tie.Need-loop-holds Inv-loop μ-loop
 loop-holds c = (omega arith, (omega arith, refl))

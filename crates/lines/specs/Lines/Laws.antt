@@ -8,9 +8,9 @@ use Rattle.lists.specs.Choice.{and}
 use Rattle.lists.specs.Choice.Laws.{and-true}
 use Rattle.lines.specs.Lines.{isBase, twoBases}
 
-pub base-range : (n b : ℕ) → isBase n b ≡ true → (1 ≤ b) × (b ≤ n)
+pub net-base-range : (n b : ℕ) → isBase n b ≡ true → (1 ≤ b) × (b ≤ n)
 unfolding isBase
-base-range n b e = let p = and-true (leb 1 b) (leb b n) e in (leb-true 1 b (p .0), leb-true b n (p .1))
+net-base-range n b e = let p = and-true (leb 1 b) (leb b n) e in (leb-true 1 b (p .0), leb-true b n (p .1))
 
 pub two-range : (n a b : ℕ) → twoBases n a b ≡ true → (isBase n a ≡ true) × ((isBase n b ≡ true) × (a ≡ b → ⊥))
 unfolding twoBases

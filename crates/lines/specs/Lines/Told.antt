@@ -7,7 +7,7 @@ use native.Mathlib.Omega.{arith}
 use borrow.Author.Tests.{leb-true, ltb-true}
 use lib.Dec.{eqb, ltb, leb}
 use lib.ListN.{length, drop}
-use Rattle.limits.specs.Limits.{longestBurst}
+use Rattle.limits.specs.Limits.{longestForgery}
 use Rattle.lists.specs.Choice.{choose, and}
 use Rattle.lists.specs.Choice.Laws.{choose-ind, and-true}
 use Rattle.text.specs.declared.number.Number.{Number}
@@ -21,7 +21,7 @@ use Rattle.text.specs.Number.Range.{Field, field-within}
 use Rattle.text.specs.Word.{wordAt}
 use Rattle.text.specs.Word.Laws.{Behind, word-behind}
 use Rattle.text.specs.Hex.{hexAt}
-use Rattle.text.specs.Hex.Range.{Burst, hex-burst}
+use Rattle.text.specs.Hex.Range.{HexRange, hex-burst}
 use Rattle.lines.specs.declared.bases.Two.{Two}
 use Rattle.lines.specs.declared.bases.Two.the-variants.{Both, Neither}
 use Rattle.lines.specs.declared.event.Line.{Line}
@@ -116,7 +116,7 @@ faulty-told n s p =
 abbrev pub EventTold : ℕ → List ℕ → ℕ → Line → Type 0
 EventTold n s p (Start b q) = (isBase n b ≡ true) × (p < q)
 EventTold n s p (Carry a b k q) = (twoBases n a b ≡ true) × ((1 ≤ k) × (p < q))
-EventTold n s p (Forge a b at count q) = (twoBases n a b ≡ true) × ((count ≤ longestBurst) × ((2 * count ≤ length (drop at s)) × (p < q)))
+EventTold n s p (Forge a b at count q) = (twoBases n a b ≡ true) × ((count ≤ longestForgery) × ((2 * count ≤ length (drop at s)) × (p < q)))
 EventTold n s p Wrong = Unit {0}
 
 start-told : (n : ℕ) (s : List ℕ) (p q : ℕ) → p ≤ q → EventTold n s p (startFields n s q)
@@ -138,7 +138,7 @@ forge-told : (n : ℕ) (s : List ℕ) (p q : ℕ) → p ≤ q → EventTold n s 
 unfolding forgeFields
 forge-told n s p q w =
     two-ind (EventTold n s p) (twoAt s q space) (TwoTold q) (two-told s q space) tt
-    (λ a b r t. hex-ind (EventTold n s p) (hexAt s r) (Burst s r) (hex-burst s r) tt
+    (λ a b r t. hex-ind (EventTold n s p) (hexAt s r) (HexRange s r) (hex-burst s r) tt
     (λ k x f. choose-ind (EventTold n s p) (twoBases n a b) (λ e. (e, (f .1 .0, (f .1 .1, omega (arith, t .1 .1, f .0))))) (λ _. tt)))
 
 pub event-told : (n : ℕ) (s : List ℕ) (p : ℕ) → EventTold n s p (eventLine n s p)

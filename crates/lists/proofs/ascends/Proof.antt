@@ -41,8 +41,17 @@ shared-slice-read-if1-2 : tie.Need-shared-slice-read-if1-2 Inv-loop μ-loop
 shared-slice-read-if1-2 c = omega arith
 
 returns : tie.Need-returns Inv-loop μ-loop
-returns c = let a = c .before .before .before .before .before .before .before .args in let s = a .ids .now in let l = c .before .before .before .before .loop in let e = c .before .before .before .before .before .least .ensures in
-    sym (l .inv .1 ∙ ascending-broken (take (a .count) s) (l .i) (omega (arith, e, length-take (a .count) s)) (omega (arith, getD-take (a .count) s (l .i) 0 (omega (arith, e)), getD-take (a .count) s (l .i + 1) 0 (omega (arith, e)))))
+returns c =
+    let a = c .before .before .before .before .before .before .before .args in
+    let s = a .ids .now in
+    let l = c .before .before .before .before .loop in
+    let e = c .before .before .before .before .before .least .ensures in
+    sym (l .inv .1
+    ∙ ascending-broken (take (a .count) s) (l .i) (omega (arith, e, length-take (a .count) s)) (omega (
+      arith,
+      getD-take (a .count) s (l .i) 0 (omega (arith, e)),
+      getD-take (a .count) s (l .i + 1) 0 (omega (arith, e)),
+    )))
 
 add-i : tie.Need-add-i Inv-loop μ-loop
 add-i c = omega arith
@@ -51,8 +60,19 @@ loop-less : tie.Need-loop-less Inv-loop μ-loop
 loop-less c = omega arith
 
 loop-again : tie.Need-loop-again Inv-loop μ-loop
-loop-again c = let a = c .before .before .before .before .before .before .before .args in let s = a .ids .now in let l = c .before .before .before .before .loop in let e = c .before .before .before .before .before .least .ensures in
-    (omega arith, l .inv .1 ∙ ascending-next (take (a .count) s) (l .i) (omega (arith, e, length-take (a .count) s)) (omega (arith, getD-take (a .count) s (l .i) 0 (omega (arith, e)), getD-take (a .count) s (l .i + 1) 0 (omega (arith, e)))))
+loop-again c =
+    let a = c .before .before .before .before .before .before .before .args in
+    let s = a .ids .now in
+    let l = c .before .before .before .before .loop in
+    let e = c .before .before .before .before .before .least .ensures in (
+      omega arith,
+      l .inv .1
+          ∙ ascending-next (take (a .count) s) (l .i) (omega (arith, e, length-take (a .count) s)) (omega (
+            arith,
+            getD-take (a .count) s (l .i) 0 (omega (arith, e)),
+            getD-take (a .count) s (l .i + 1) 0 (omega (arith, e)),
+          )),
+    )
 
 returns-2 : tie.Need-returns-2 Inv-loop μ-loop
 returns-2 c = let a = c .before .before .before .before .args in let s = a .ids .now in let l = c .before .loop in

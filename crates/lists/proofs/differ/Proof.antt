@@ -35,9 +35,15 @@ holds-requires : tie.Need-holds-requires Inv-loop μ-loop
 holds-requires c κs = search needs
 
 returns : tie.Need-returns Inv-loop μ-loop
-returns c = let a = c .before .before .before .before .before .before .before .args in let s = a .ids .now in let k = a .count in let l = c .before .before .before .before .loop in let e = c .before .before .before .before .before .least .ensures in
+returns c =
+    let a = c .before .before .before .before .before .before .before .args in
+    let s = a .ids .now in
+    let k = a .count in
+    let l = c .before .before .before .before .loop in
+    let e = c .before .before .before .before .before .least .ensures in
     let at = getD-take k s (l .i) 0 (omega (arith, e)) in
-    sym (l .inv .1 ∙ distinct-broken (take k s) (l .i) (omega (arith, e, length-take k s)) (rw at (sym (c .before .holds .ensures) ∙ c .if1 .taken)))
+    sym (l .inv .1
+    ∙ distinct-broken (take k s) (l .i) (omega (arith, e, length-take k s)) (rw at (sym (c .before .holds .ensures) ∙ c .if1 .taken)))
 
 add-i : tie.Need-add-i Inv-loop μ-loop
 add-i c = omega arith
@@ -46,9 +52,17 @@ loop-less : tie.Need-loop-less Inv-loop μ-loop
 loop-less c = omega arith
 
 loop-again : tie.Need-loop-again Inv-loop μ-loop
-loop-again c = let a = c .before .before .before .before .before .before .before .args in let s = a .ids .now in let k = a .count in let l = c .before .before .before .before .loop in let e = c .before .before .before .before .before .least .ensures in
-    let at = getD-take k s (l .i) 0 (omega (arith, e)) in
-    (omega arith, l .inv .1 ∙ distinct-next (take k s) (l .i) (omega (arith, e, length-take k s)) (rw at (sym (c .before .holds .ensures) ∙ c .if1 .left)))
+loop-again c =
+    let a = c .before .before .before .before .before .before .before .args in
+    let s = a .ids .now in
+    let k = a .count in
+    let l = c .before .before .before .before .loop in
+    let e = c .before .before .before .before .before .least .ensures in
+    let at = getD-take k s (l .i) 0 (omega (arith, e)) in (
+      omega arith,
+      l .inv .1
+          ∙ distinct-next (take k s) (l .i) (omega (arith, e, length-take k s)) (rw at (sym (c .before .holds .ensures) ∙ c .if1 .left)),
+    )
 
 returns-2 : tie.Need-returns-2 Inv-loop μ-loop
 returns-2 c = let a = c .before .before .before .before .args in let s = a .ids .now in let l = c .before .loop in

@@ -29,8 +29,14 @@ shared-slice-read-if1 : tie.Need-shared-slice-read-if1 Inv-loop μ-loop
 shared-slice-read-if1 c = omega (arith, c .before .before .before .least .ensures)
 
 returns : tie.Need-returns Inv-loop μ-loop
-returns c = let a = c .before .before .before .before .before .before .args in let s = a .ids .now in let l = c .before .before .before .loop in let e = c .before .before .before .before .least .ensures in
-    sym (l .inv ∙ member-found (a .x) (take (a .count) s) (l .i) (omega (arith, e, length-take (a .count) s)) (getD-take (a .count) s (l .i) 0 (omega (arith, e)) ∙ c .if1 .taken))
+returns c =
+    let a = c .before .before .before .before .before .before .args in
+    let s = a .ids .now in
+    let l = c .before .before .before .loop in
+    let e = c .before .before .before .before .least .ensures in
+    sym (l .inv
+    ∙ member-found (a .x) (take (a .count) s) (l .i) (omega (arith, e, length-take (a .count) s))
+    (getD-take (a .count) s (l .i) 0 (omega (arith, e)) ∙ c .if1 .taken))
 
 add-i : tie.Need-add-i Inv-loop μ-loop
 add-i c = omega (arith, c .before .before .before .before .least .ensures)
@@ -39,8 +45,14 @@ loop-less : tie.Need-loop-less Inv-loop μ-loop
 loop-less c = omega arith
 
 loop-again : tie.Need-loop-again Inv-loop μ-loop
-loop-again c = let a = c .before .before .before .before .before .before .args in let s = a .ids .now in let l = c .before .before .before .loop in let e = c .before .before .before .before .least .ensures in
-    l .inv ∙ member-next (a .x) (take (a .count) s) (l .i) (omega (arith, e, length-take (a .count) s)) (λ p. c .if1 .left (sym (getD-take (a .count) s (l .i) 0 (omega (arith, e))) ∙ p))
+loop-again c =
+    let a = c .before .before .before .before .before .before .args in
+    let s = a .ids .now in
+    let l = c .before .before .before .loop in
+    let e = c .before .before .before .before .least .ensures in
+    l .inv
+    ∙ member-next (a .x) (take (a .count) s) (l .i) (omega (arith, e, length-take (a .count) s))
+    (λ p. c .if1 .left (sym (getD-take (a .count) s (l .i) 0 (omega (arith, e))) ∙ p))
 
 returns-2 : tie.Need-returns-2 Inv-loop μ-loop
 returns-2 c = let a = c .before .before .before .before .args in let s = a .ids .now in let l = c .before .loop in

@@ -1,4 +1,5 @@
--- `lists::same` meets its contract. Two fronts of different lengths are not the same; else the invariant says that they are the same exactly if they are from i on.
+-- `lists::same` meets its contract. Two fronts of different lengths are not the same;
+-- else the invariant says that they are the same exactly if they are from i on.
 use Prim.Native.Nat.{_-_}
 use mathlib.Core.Path.{_≡_, refl, sym, _∙_}
 use native.Mathlib.Omega.{arith}
@@ -24,7 +25,9 @@ least-requires-2 c κs = search needs
 
 returns : tie.Need-returns Inv-loop μ-loop
 returns c = let a = c .before .before .before .before .before .args in let k = a .count in
-    sym (same-lengths (take k (a .a .now)) (take k (a .b .now)) (λ e. c .if1 .taken (c .before .least2 .ensures ∙ sym (length-take k (a .b .now)) ∙ sym e ∙ length-take k (a .a .now) ∙ sym (c .before .before .least .ensures))))
+    sym (same-lengths (take k (a .a .now)) (take k (a .b .now))
+    (λ e. c .if1 .taken (c .before .least2 .ensures ∙ sym (length-take k (a .b .now)) ∙ sym e ∙ length-take k (a .a .now)
+    ∙ sym (c .before .before .least .ensures))))
 
 loop-holds : tie.Need-loop-holds Inv-loop μ-loop
 loop-holds c = refl
@@ -42,9 +45,17 @@ shared-slice-read-if2-2 : tie.Need-shared-slice-read-if2-2 Inv-loop μ-loop
 shared-slice-read-if2-2 c = omega arith
 
 returns-2 : tie.Need-returns-2 Inv-loop μ-loop
-returns-2 c = let a = c .before .before .before .before .before .before .before .before .before .before .args in let k = a .count in let l = c .before .before .before .before .loop in let e = c .before .before .before .before .before .before .before .least .ensures in let f = c .before .before .before .before .before .before .least2 .ensures in
-    sym (l .inv ∙ same-broken (take k (a .a .now)) (take k (a .b .now)) (l .i) (omega (arith, e, length-take k (a .a .now))) (omega (arith, e, f, length-take k (a .b .now)))
-    (λ p. c .if2 .taken (sym (getD-take k (a .a .now) (l .i) 0 (omega (arith, e))) ∙ p ∙ getD-take k (a .b .now) (l .i) 0 (omega (arith, e)))))
+returns-2 c =
+    let a = c .before .before .before .before .before .before .before .before .before .before .args in
+    let k = a .count in
+    let l = c .before .before .before .before .loop in
+    let e = c .before .before .before .before .before .before .before .least .ensures in
+    let f = c .before .before .before .before .before .before .least2 .ensures in
+    sym (l .inv
+    ∙ same-broken (take k (a .a .now)) (take k (a .b .now)) (l .i) (omega (arith, e, length-take k (a .a .now)))
+    (omega (arith, e, f, length-take k (a .b .now)))
+    (λ p. c .if2 .taken
+    (sym (getD-take k (a .a .now) (l .i) 0 (omega (arith, e))) ∙ p ∙ getD-take k (a .b .now) (l .i) 0 (omega (arith, e)))))
 
 add-i : tie.Need-add-i Inv-loop μ-loop
 add-i c = omega arith
@@ -53,13 +64,27 @@ loop-less : tie.Need-loop-less Inv-loop μ-loop
 loop-less c = omega arith
 
 loop-again : tie.Need-loop-again Inv-loop μ-loop
-loop-again c = let a = c .before .before .before .before .before .before .before .before .before .before .args in let k = a .count in let l = c .before .before .before .before .loop in let e = c .before .before .before .before .before .before .before .least .ensures in let f = c .before .before .before .before .before .before .least2 .ensures in
-    l .inv ∙ same-next (take k (a .a .now)) (take k (a .b .now)) (l .i) (omega (arith, e, length-take k (a .a .now))) (omega (arith, e, f, length-take k (a .b .now)))
+loop-again c =
+    let a = c .before .before .before .before .before .before .before .before .before .before .args in
+    let k = a .count in
+    let l = c .before .before .before .before .loop in
+    let e = c .before .before .before .before .before .before .before .least .ensures in
+    let f = c .before .before .before .before .before .before .least2 .ensures in
+    l .inv
+    ∙ same-next (take k (a .a .now)) (take k (a .b .now)) (l .i) (omega (arith, e, length-take k (a .a .now)))
+    (omega (arith, e, f, length-take k (a .b .now)))
     (getD-take k (a .a .now) (l .i) 0 (omega (arith, e)) ∙ c .if2 .left ∙ sym (getD-take k (a .b .now) (l .i) 0 (omega (arith, e))))
 
 returns-3 : tie.Need-returns-3 Inv-loop μ-loop
-returns-3 c = let a = c .before .before .before .before .before .before .before .args in let k = a .count in let l = c .before .loop in let e = c .before .before .before .before .least .ensures in let f = c .before .before .before .least2 .ensures in
-    sym (l .inv ∙ same-end (take k (a .a .now)) (take k (a .b .now)) (l .i) (omega (arith, e, length-take k (a .a .now))) (omega (arith, e, f, length-take k (a .b .now))))
+returns-3 c =
+    let a = c .before .before .before .before .before .before .before .args in
+    let k = a .count in
+    let l = c .before .loop in
+    let e = c .before .before .before .before .least .ensures in
+    let f = c .before .before .before .least2 .ensures in
+    sym (l .inv
+    ∙ same-end (take k (a .a .now)) (take k (a .b .now)) (l .i) (omega (arith, e, length-take k (a .a .now)))
+    (omega (arith, e, f, length-take k (a .b .now))))
 
 pub same-spec : {M : Type 1} → statement M
 same-spec =

@@ -24,7 +24,9 @@ shared-slice-read-if1 : tie.Need-shared-slice-read-if1 Inv-loop μ-loop
 shared-slice-read-if1 c = omega arith
 
 returns : tie.Need-returns Inv-loop μ-loop
-returns c = let l = c .before .before .before .loop in sym (l .inv ∙ zeros-broken (c .before .before .before .before .args .ids .now) (l .i) (omega arith) (c .if1 .taken))
+returns c =
+    let l = c .before .before .before .loop in
+    sym (l .inv ∙ zeros-broken (c .before .before .before .before .args .ids .now) (l .i) (omega arith) (c .if1 .taken))
 
 add-i : tie.Need-add-i Inv-loop μ-loop
 add-i c = omega arith
@@ -33,7 +35,9 @@ loop-less : tie.Need-loop-less Inv-loop μ-loop
 loop-less c = omega arith
 
 loop-again : tie.Need-loop-again Inv-loop μ-loop
-loop-again c = let l = c .before .before .before .loop in l .inv ∙ zeros-next (c .before .before .before .before .args .ids .now) (l .i) (omega arith) (c .if1 .left)
+loop-again c =
+    let l = c .before .before .before .loop in
+    l .inv ∙ zeros-next (c .before .before .before .before .args .ids .now) (l .i) (omega arith) (c .if1 .left)
 
 returns-2 : tie.Need-returns-2 Inv-loop μ-loop
 returns-2 c = let l = c .before .loop in sym (l .inv ∙ zeros-end (c .before .before .args .ids .now) (l .i) (omega arith))

@@ -105,7 +105,8 @@ first-last a {b} e = choose-ind (λ (r : ℕ). r ≡ a) (eqb a 0) (λ p. e ∙ s
 
 pub first-assoc : (a b c : ℕ) → first a (first b c) ≡ first (first a b) c
 unfolding first
-first-assoc a b c = choose-ind (λ (r : ℕ). choose (eqb a 0) (first b c) a ≡ first r c) (eqb a 0) (λ e. choose-yes _ _ e ∙ (unfold first in refl)) (λ e. choose-no _ _ e ∙ sym (first-given c (eqb-false a 0 e)))
+first-assoc a b c = choose-ind (λ (r : ℕ). choose (eqb a 0) (first b c) a ≡ first r c) (eqb a 0)
+    (λ e. choose-yes _ _ e ∙ (unfold first in refl)) (λ e. choose-no _ _ e ∙ sym (first-given c (eqb-false a 0 e)))
 
 pub first-passed : (a b : ℕ) → first a b ≡ 0 → (a ≡ 0) × (b ≡ 0)
 unfolding first choose

@@ -2,7 +2,7 @@
 use mathlib.Core.Path.{_≡_, refl, sym, ap, _∙_}
 use mathlib.Core.Bool.{Bool, true, false, not}
 use mathlib.Core.List.{List, [], _∷_, _++_, append-assoc}
-use Prim.Native.Nat.{ℕ, zero, suc, _+_, _-_, _<_, _≤_}
+use Prim.Native.Nat.{ℕ, suc, _+_, _-_, _<_, _≤_}
 use native.Mathlib.Omega.{arith}
 use native.Mathlib.Numerals.{add-one}
 use borrow.Author.Tests.{lt-ltb, le-ltb, eq-eqb, ne-eqb}
@@ -40,7 +40,8 @@ pub distinct-broken : (l : List ℕ) (i : ℕ) → i < length l → member (getD
 unfolding distinct and
 distinct-broken l i h e = rw (drop-cons l i 0 h, ← (add-one i), e)
 
-pub distinct-next : (l : List ℕ) (i : ℕ) → i < length l → member (getD l i 0) (drop (i + 1) l) ≡ false → distinct (drop i l) ≡ distinct (drop (i + 1) l)
+pub distinct-next : (l : List ℕ) (i : ℕ) → i < length l → member (getD l i 0) (drop (i + 1) l) ≡ false
+    → distinct (drop i l) ≡ distinct (drop (i + 1) l)
 unfolding distinct and
 distinct-next l i h e = ap distinct (drop-cons l i 0 h) ∙ rw (← (add-one i), e) (rw add-one)
 
@@ -62,11 +63,13 @@ unfolding zeros
 zeros-end l i h = rw (drop-of-length-le l {i = i} h)
 
 -- ---- sameList
-pub same-broken : (l k : List ℕ) (i : ℕ) → i < length l → i < length k → (getD l i 0 ≡ getD k i 0 → ⊥) → sameList (drop i l) (drop i k) ≡ false
+pub same-broken : (l k : List ℕ) (i : ℕ) → i < length l → i < length k → (getD l i 0 ≡ getD k i 0 → ⊥)
+    → sameList (drop i l) (drop i k) ≡ false
 unfolding sameList and
 same-broken l k i h g e = rw (drop-cons l i 0 h, drop-cons k i 0 g, ne-eqb (getD l i 0) (getD k i 0) e)
 
-pub same-next : (l k : List ℕ) (i : ℕ) → i < length l → i < length k → getD l i 0 ≡ getD k i 0 → sameList (drop i l) (drop i k) ≡ sameList (drop (i + 1) l) (drop (i + 1) k)
+pub same-next : (l k : List ℕ) (i : ℕ) → i < length l → i < length k → getD l i 0 ≡ getD k i 0
+    → sameList (drop i l) (drop i k) ≡ sameList (drop (i + 1) l) (drop (i + 1) k)
 unfolding sameList and
 same-next l k i h g e = rw (drop-cons l i 0 h, drop-cons k i 0 g, eq-eqb (getD l i 0) (getD k i 0) e, add-one)
 
@@ -93,7 +96,8 @@ pub ascending-broken : (l : List ℕ) (i : ℕ) → i + 1 < length l → getD l 
 unfolding ascending and
 ascending-broken l i h e = rw (two-off l i h, le-ltb (getD l i 0) (getD l (i + 1) 0) e)
 
-pub ascending-next : (l : List ℕ) (i : ℕ) → i + 1 < length l → getD l i 0 < getD l (i + 1) 0 → ascending (drop i l) ≡ ascending (drop (i + 1) l)
+pub ascending-next : (l : List ℕ) (i : ℕ) → i + 1 < length l → getD l i 0 < getD l (i + 1) 0
+    → ascending (drop i l) ≡ ascending (drop (i + 1) l)
 unfolding ascending and
 ascending-next l i h e = rw (two-off l i h, lt-ltb (getD l i 0) (getD l (i + 1) 0) e, drop-cons l (i + 1) 0 h)
 

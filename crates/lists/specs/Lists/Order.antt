@@ -5,10 +5,8 @@ use mathlib.Core.Logic.{_⊎_, inl, inr}
 use mathlib.Core.Bool.{Bool, true, false}
 use mathlib.Core.List.{List, [], _∷_, _++_}
 use native.Mathlib.Omega.{arith}
-use borrow.Author.Tests.{ltb-true}
-use lib.Dec.{ltb}
-use Rattle.lists.specs.Choice.Laws.{and-true}
 use Rattle.lists.specs.Lists.Sets.{member-head, member-tail, member-cases}
+use Rattle.lists.specs.Lists.Sorted.{ascending-tail}
 use Rattle.lists.specs.Lists.{member, ascending}
 
 -- ---- membership
@@ -19,7 +17,10 @@ member-none z e = let k : _≡_ {A = ℕ} 0 1 = cc in omega arith
 -- one more behind
 pub member-front : (z : ℕ) (l : List ℕ) (x : ℕ) → member z l ≡ true → member z (l ++ (x ∷ [])) ≡ true
 member-front z [] x h = absurd (member-none z h)
-member-front z (y ∷ l) x h = elim (member-cases z y l h) [ inl e ↦ rw e (member-head z (l ++ (x ∷ []))) | inr e ↦ member-tail z y (l ++ (x ∷ [])) (member-front z l x e) ]
+member-front z (y ∷ l) x h = elim (member-cases z y l h) [
+  | inl e ↦ rw e (member-head z (l ++ (x ∷ [])))
+  | inr e ↦ member-tail z y (l ++ (x ∷ [])) (member-front z l x e)
+]
 
 pub member-last : (l : List ℕ) (x : ℕ) → member x (l ++ (x ∷ [])) ≡ true
 member-last [] x = member-head x []
@@ -33,19 +34,13 @@ member-snoc-cases z (y ∷ l) x h = elim (member-cases z y (l ++ (x ∷ [])) h) 
 ]
 
 -- ---- an ascending list
-pub ascending-rest : (x : ℕ) (l : List ℕ) → ascending (x ∷ l) ≡ true → ascending l ≡ true
-unfolding ascending
-ascending-rest x [] e = refl
-ascending-rest x (y ∷ l) e = and-true (ltb x y) (ascending (y ∷ l)) e .1
-
 -- what follows the first is larger
 pub ascending-above : (x : ℕ) (l : List ℕ) → ascending (x ∷ l) ≡ true → (z : ℕ) → member z l ≡ true → x < z
 ascending-above x [] e z h = absurd (member-none z h)
-ascending-above x (y ∷ l) e z h = go (first e) (member-cases z y l h) (λ k. ascending-above y l (ascending-rest x (y ∷ l) e) z k)
+ascending-above x (y ∷ l) e z h =
+    let p = ascending-tail x (y ∷ l) e in
+    go (p .0) (member-cases z y l h) (λ k. ascending-above y l (p .1) z k)
   where
-    first : ascending (x ∷ (y ∷ l)) ≡ true → x < y
-    first p = unfold ascending in ltb-true x y (and-true (ltb x y) (ascending (y ∷ l)) p .0)
-
     go : x < y → (y ≡ z) ⊎ (member z l ≡ true) → (member z l ≡ true → y < z) → x < z
     go p (inl q) ih = omega arith
     go p (inr q) ih = omega (arith, ih q)
@@ -54,7 +49,9 @@ pub ascending-unique : (l k : List ℕ) → ascending l ≡ true → ascending k
 ascending-unique [] [] a b same = refl
 ascending-unique [] (y ∷ k) a b same = absurd (member-none y (same y ∙ member-head y k))
 ascending-unique (x ∷ l) [] a b same = absurd (member-none x (sym (same x) ∙ member-head x l))
-ascending-unique (x ∷ l) (y ∷ k) a b same = ap₂ _∷_ first (ascending-unique l k (ascending-rest x l a) (ascending-rest y k b) (λ z. rest z (member z l) (member z k) refl refl))
+ascending-unique (x ∷ l) (y ∷ k) a b same =
+    ap₂ _∷_ first
+    (ascending-unique l k (ascending-tail x l a .1) (ascending-tail y k b .1) (λ z. rest z (member z l) (member z k) refl refl))
   where
     there : (z : ℕ) → member z (x ∷ l) ≡ true → (y ≡ z) ⊎ (member z k ≡ true)
     there z h = member-cases z y k (sym (same z) ∙ h)
@@ -65,11 +62,20 @@ ascending-unique (x ∷ l) (y ∷ k) a b same = ap₂ _∷_ first (ascending-uni
     first : x ≡ y
     first = elim (there x (member-head x l)) [
       | inl e ↦ sym e
-      | inr h ↦ elim (back y (member-head y k)) [ inl e ↦ e | inr g ↦ absurd (omega (arith, ascending-above y k b x h, ascending-above x l a y g)) ]
+      | inr h ↦ elim (back y (member-head y k)) [
+        | inl e ↦ e
+        | inr g ↦ absurd (omega (arith, ascending-above y k b x h, ascending-above x l a y g))
+      ]
     ]
 
     rest : (z : ℕ) (p q : Bool) → member z l ≡ p → member z k ≡ q → p ≡ q
     rest z true true e f = refl
-    rest z true false e f = elim (there z (member-tail z x l e)) [ inl h ↦ absurd (omega (arith, ascending-above x l a z e, first)) | inr h ↦ sym h ∙ f ]
-    rest z false true e f = elim (back z (member-tail z y k f)) [ inl h ↦ absurd (omega (arith, ascending-above y k b z f, first)) | inr h ↦ sym e ∙ h ]
+    rest z true false e f = elim (there z (member-tail z x l e)) [
+      | inl h ↦ absurd (omega (arith, ascending-above x l a z e, first))
+      | inr h ↦ sym h ∙ f
+    ]
+    rest z false true e f = elim (back z (member-tail z y k f)) [
+      | inl h ↦ absurd (omega (arith, ascending-above y k b z f, first))
+      | inr h ↦ sym e ∙ h
+    ]
     rest z false false e f = refl

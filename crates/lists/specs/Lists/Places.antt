@@ -20,7 +20,10 @@ unfolding distinct
 distinct-parts x l e = let p = and-true (not (member x l)) (distinct l) e in (not-true (member x l) (p .0), p .1)
 
 not-again : (x : ℕ) (l : List ℕ) → member x l ≡ false → (j : ℕ) → j < length l → x ≡ getD l j 0 → ⊥
-not-again x l e j h q = let m : member x l ≡ true = subst (λ z. member z l ≡ true) (sym q) (member-at l j h) in let z : _≡_ {A = ℕ} 0 1 = cc in omega arith
+not-again x l e j h q =
+    let m : member x l ≡ true = subst (λ z. member z l ≡ true) (sym q) (member-at l j h) in
+    let z : _≡_ {A = ℕ} 0 1 = cc in
+    omega arith
 
 pub distinct-places : (l : List ℕ) → distinct l ≡ true → (i j : ℕ) → i < length l → j < length l → getD l i 0 ≡ getD l j 0 → i ≡ j
 distinct-places [] e i j li lj q = absurd (omega arith)

@@ -2,8 +2,8 @@
 use mathlib.Core.Path.{_≡_}
 use lib.ListN.{length}
 use Rattle.node.specs.declared.Node.{Node}
-use Rattle.node.specs.Node.{mostBroadcasts, marks}
+use Rattle.node.specs.Node.{mostBroadcasts, markRoom}
 
 pub record SizedNode (v : Node) : Type 0 where
   pub frames : length (v .frames) ≡ mostBroadcasts
-  pub heard : length (v .heard) ≡ marks
+  pub heard : length (v .heard) ≡ markRoom

@@ -7,7 +7,7 @@ use denote.Ref.{now}
 use Rattle.print.specs.Decimal.{decimalText}
 use lib.ListN.{drop, take, length-drop}
 use lib.Seq.{take-all}
-use Rattle.print.specs.Put.{putEnd, putOutput}
+use Rattle.print.specs.Put.{textEnd, textOutput}
 use borrow.Author.Needs.{needs}
 use Rattle.print.proofs.put_decimal.Statement.{statement}
 use Rattle.print.proofs.put_decimal.Tie as tie
@@ -43,7 +43,7 @@ returns c =
     let a = c .before .before .before .before .before .before .before .before .before .args in
     let e = c .before .before .put-text .ensures in
     let d = text-is (c .before .before .before .before .before .before .before) in
-    (e .0 ∙ ap (λ (t : List ℕ). putEnd (now (a .out)) (a .at) t) d, e .1 ∙ ap (λ (t : List ℕ). putOutput (now (a .out)) (a .at) t) d)
+    (e .0 ∙ ap (λ (t : List ℕ). textEnd (now (a .out)) (a .at) t) d, e .1 ∙ ap (λ (t : List ℕ). textOutput (now (a .out)) (a .at) t) d)
 
 pub put-decimal-spec : {M : Type 1} → statement M
 put-decimal-spec =

@@ -32,11 +32,11 @@ digits-last (suc i) rest d bytes text some h less e p =
     ap (λ (k : ℕ). drop k (set bytes k d)) one ∙ store-front bytes i d h ∙ ap (λ (x : ℕ). x ∷ drop (suc i) bytes) same
     ∙ sym (p ∙ ap (λ (l : List ℕ). l ++ drop (suc i) bytes) (choose-yes _ _ (lt-ltb rest 10 less)))
 
-pub digits-more : (i rest d : ℕ) (bytes text : List ℕ) → 0 < i → i ≤ length bytes → 10 ≤ rest → d ≡ 48 + rest % 10
+pub decimal-more : (i rest d : ℕ) (bytes text : List ℕ) → 0 < i → i ≤ length bytes → 10 ≤ rest → d ≡ 48 + rest % 10
     → text ≡ lastDigits i rest ++ drop i bytes → text ≡ lastDigits (i - 1) (rest / 10) ++ drop (i - 1) (set bytes (i - 1) d)
 unfolding lastDigits
-digits-more zero rest d bytes text some h more e p = absurd (omega arith)
-digits-more (suc i) rest d bytes text some h more e p =
+decimal-more zero rest d bytes text some h more e p = absurd (omega arith)
+decimal-more (suc i) rest d bytes text some h more e p =
     let one : suc i - 1 ≡ i = omega arith in
     p ∙ ap (λ (l : List ℕ). l ++ drop (suc i) bytes) (choose-no _ _ (le-ltb rest 10 more)) ∙ append-assoc (lastDigits i (rest / 10)) ((48 + rest % 10) ∷ []) (drop (suc i) bytes)
     ∙ ap (λ (x : ℕ). lastDigits i (rest / 10) ++ (x ∷ drop (suc i) bytes)) (sym e)

@@ -9,7 +9,7 @@ use borrow.Author.Tests.{le-leb, lt-leb}
 use lib.ListN.{length, set, take, drop, getD, length-append}
 use lib.Seq.{sets, length-sets, sets-eq, take-suc, take-all}
 use Rattle.lists.specs.Choice.Laws.{choose-yes, choose-no}
-use Rattle.print.specs.Put.{fits, putEnd, putOutput, Put}
+use Rattle.print.specs.Put.{textFits, textEnd, textOutput, Put}
 
 sets-append : (out : List ℕ) (at : ℕ) (t u : List ℕ) → sets out at (t ++ u) ≡ sets (sets out at t) (at + length t) u
 sets-append out at [] u = rw (add-zero at)
@@ -40,17 +40,17 @@ put-all w j h p = rw take-all at p
 
 -- ---- where there is room
 pub put-fits : {out : List ℕ} {at : ℕ} {text after : List ℕ} {end : ℕ} → at + length text ≤ length out
-    → end ≡ putEnd out at text → after ≡ putOutput out at text → Put out at text after end
-unfolding putEnd putOutput fits
+    → end ≡ textEnd out at text → after ≡ textOutput out at text → Put out at text after end
+unfolding textEnd textOutput textFits
 put-fits room e o = let f = le-leb _ _ room in record { past = e ∙ choose-yes _ _ f; is = o ∙ choose-yes _ _ f }
 
 pub fits-put : {out : List ℕ} {at : ℕ} {text after : List ℕ} {end : ℕ} → at + length text ≤ length out
-    → Put out at text after end → (end ≡ putEnd out at text) × (after ≡ putOutput out at text)
-unfolding putEnd putOutput fits
+    → Put out at text after end → (end ≡ textEnd out at text) × (after ≡ textOutput out at text)
+unfolding textEnd textOutput textFits
 fits-put room p = let f = le-leb _ _ room in (p .past ∙ sym (choose-yes _ _ f), p .is ∙ sym (choose-yes _ _ f))
 
-pub not-put : (out : List ℕ) (at : ℕ) (text : List ℕ) → length out < at + length text → (at ≡ putEnd out at text) × (out ≡ putOutput out at text)
-unfolding putEnd putOutput fits
+pub not-put : (out : List ℕ) (at : ℕ) (text : List ℕ) → length out < at + length text → (at ≡ textEnd out at text) × (out ≡ textOutput out at text)
+unfolding textEnd textOutput textFits
 not-put out at text short = let f = lt-leb _ _ short in (sym (choose-no _ _ f), sym (choose-no _ _ f))
 
 -- a text at the front, and the rest as it was
@@ -65,13 +65,13 @@ put-begin out at w = record { past = refl; is = refl }
 
 -- a text more, where there is room for all
 pub put-next : {out : List ℕ} {at : ℕ} {t o₁ : List ℕ} {p : ℕ} (u : List ℕ) {o₂ : List ℕ} {q : ℕ} → Put out at t o₁ p → p + length u ≤ length out
-    → q ≡ putEnd o₁ p u → o₂ ≡ putOutput o₁ p u → Put out at (t ++ u) o₂ q
+    → q ≡ textEnd o₁ p u → o₂ ≡ textOutput o₁ p u → Put out at (t ++ u) o₂ q
 put-next {out} {at} {t} {o₁} {p} u a room e o =
     put-then a (put-fits (omega (arith, ap length (a .is) ∙ length-sets out at t)) e o)
 
 -- the output keeps its length
-pub put-length : {out : List ℕ} {at : ℕ} {t o₁ : List ℕ} {p : ℕ} → Put out at t o₁ p → length o₁ ≡ length out
-put-length {out} {at} {t} a = ap length (a .is) ∙ length-sets out at t
+pub text-length : {out : List ℕ} {at : ℕ} {t o₁ : List ℕ} {p : ℕ} → Put out at t o₁ p → length o₁ ≡ length out
+text-length {out} {at} {t} a = ap length (a .is) ∙ length-sets out at t
 
 -- how far a text more takes the place
 pub step : {out : List ℕ} {at : ℕ} {t o₁ : List ℕ} {p : ℕ} (u : List ℕ) {o₂ : List ℕ} {q : ℕ} → Put out at t o₁ p → Put out at (t ++ u) o₂ q → q ≡ p + length u

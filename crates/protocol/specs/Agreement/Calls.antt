@@ -1,5 +1,5 @@
--- What one call does to a base, as the argument needs it: a list of facts about the view before, the view after and the messages broadcast. Observers
--- proves them of the steps of document 01; Kept shows that they keep the net's invariant.
+-- What one call does to a base, as the argument needs it: a list of facts about the view before, the view after and the messages broadcast.
+-- Observers proves them of the steps of document 01; Kept shows that they keep the net's invariant.
 use Prim.Native.Nat.{ℕ, _+_, _≤_, _<_, min}
 use mathlib.Core.Path.{_≡_}
 use mathlib.Core.Logic.{_≢_, _⊎_}
@@ -8,12 +8,12 @@ use mathlib.Core.List.{List}
 use lib.ListN.{length}
 use Rattle.lists.specs.Lists.{member, distinct}
 use Rattle.frame.specs.Message.{Message, announce, verify, correctFinal, verifyFinal}
-use Rattle.protocol.specs.Agreement.Views.{View, Said, Holds, Certified, corrects, Prime, Secondary, Lists}
+use Rattle.protocol.specs.Agreement.Views.{View, Said, ViewHolds, Certified, corrects, Prime, Secondary, Lists}
 
-pub data Input : Type 0 where
-  start : Input
+pub data ViewInput : Type 0 where
+  start : ViewInput
   -- a message on the link to base x
-  arrival : ℕ → Message → Input
+  arrival : ℕ → Message → ViewInput
 
 -- ---- one base at all times
 -- the part of a sound record that the argument uses, of the base me whose identifier is own
@@ -26,7 +26,8 @@ pub record SoundView (n me own : ℕ) (b : View) : Type 0 where
   pub own-vote : (v : List ℕ) → b .vote me v ≡ false
   pub verifies-once : (x : ℕ) → x < n → distinct (b .verifies x) ≡ true
 
--- a running base has acted on all that it holds: both checks fail of it as it stands, and with two Correct-Finals of one list it has sent a Verify-Final
+-- a running base has acted on all that it holds: both checks fail of it as it stands, and
+-- with two Correct-Finals of one list it has sent a Verify-Final
 pub record Settled (n t me : ℕ) (b : View) : Type 0 where
   pub not-prime : b .state ≡ 1 → Prime n t me b → ⊥
   pub not-secondary : (v : List ℕ) → b .state ≡ 1 → Secondary n t b v → ⊥
@@ -68,12 +69,12 @@ pub data Stopping (n t me : ℕ) (b c : View) : Type 0 where
   as-secondary : c .state ≡ 3 → Secondary n t c (c .final) → Stopping n t me b c
 
 -- ---- one call at the base me
-pub record Call (n t me own : ℕ) (i : Input) (b c : View) (says : List Message) : Type 0 where
+pub record ViewCall (n t me own : ℕ) (i : ViewInput) (b c : View) (says : List Message) : Type 0 where
   pub grows : Grows b c
   pub runs : 1 ≤ c .state
   pub settled : Settled n t me c
   -- what is held was held before, or has just arrived; what has arrived is taken
-  pub heard : (x : ℕ) (m : Message) → x ≢ me → Holds c x m → Holds b x m ⊎ (i ≡ arrival x m)
+  pub heard : (x : ℕ) (m : Message) → x ≢ me → ViewHolds c x m → ViewHolds b x m ⊎ (i ≡ arrival x m)
   pub taken : (x : ℕ) (m : Message) → i ≡ arrival x m → c .state ≤ 1 → Taken n b c x m
   pub stopping : 2 ≤ c .state → Stopping n t me b c
   -- what is broadcast is backed, and a Verify-Final is broadcast once
@@ -81,7 +82,7 @@ pub record Call (n t me own : ℕ) (i : Input) (b c : View) (says : List Message
   pub vote-first : (v : List ℕ) → Said (verifyFinal v) says → b .sent ≡ 0
   pub vote-one : (v u : List ℕ) → Said (verifyFinal v) says → Said (verifyFinal u) says → v ≡ u
   -- what is new in the record is broadcast
-  pub start-told : 1 ≤ c .state → (1 ≤ b .state) ⊎ Said (announce own) says
-  pub names-told : (x : ℕ) → x < n → 1 ≤ c .named x → ((1 ≤ b .state) × (c .named x ≡ b .named x)) ⊎ Said (verify (c .named x)) says
-  pub vote-told : 1 ≤ c .sent → (1 ≤ b .sent) ⊎ ((v : List ℕ) × Said (verifyFinal v) says)
-  pub stop-told : 2 ≤ c .state → (2 ≤ b .state) ⊎ Said (correctFinal (c .final)) says
+  pub start-said : 1 ≤ c .state → (1 ≤ b .state) ⊎ Said (announce own) says
+  pub names-said : (x : ℕ) → x < n → 1 ≤ c .named x → ((1 ≤ b .state) × (c .named x ≡ b .named x)) ⊎ Said (verify (c .named x)) says
+  pub vote-said : 1 ≤ c .sent → (1 ≤ b .sent) ⊎ ((v : List ℕ) × Said (verifyFinal v) says)
+  pub stop-said : 2 ≤ c .state → (2 ≤ b .state) ⊎ Said (correctFinal (c .final)) says

@@ -12,7 +12,8 @@ use Rattle.frame.specs.Message.{Message, announce, verify, correctFinal, verify
 use Rattle.protocol.specs.Agreement.Views.{View, Certified, corrects}
 use Rattle.protocol.specs.Agreement.Calls.{Grows, Backed}
 
--- a message of base x has been delivered to b while b runs: an identifier may have been announced on another link, and a Verify-Final may have been replaced since
+-- a message of base x has been delivered to b while b runs: an identifier may have been
+-- announced on another link, and a Verify-Final may have been replaced since
 abbrev pub Delivered : ℕ → View → ℕ → Message → Type 0
 Delivered n b x (announce g) = 1 ≤ g → Certified n b g
 Delivered n b x (verify g) = member g (b .verifies x) ≡ true
@@ -20,7 +21,15 @@ Delivered n b x (correctFinal v) = b .correct x v ≡ true
 Delivered n b x (verifyFinal v) = (b .vote x v ≡ true) ⊎ ((u : List ℕ) × (b .correct x u ≡ true))
 
 pub grows-not : (b : View) → Grows b b
-grows-not b = record { names = λ x h. refl; verifies = λ x g h. h; corrects = λ x v h. h; votes = λ x v h. inl h; state = le-refl (b .state); sent = le-refl (b .sent); stays = λ h. (refl, refl) }
+grows-not b = record {
+  names = λ x h. refl;
+  verifies = λ x g h. h;
+  corrects = λ x v h. h;
+  votes = λ x v h. inl h;
+  state = le-refl (b .state);
+  sent = le-refl (b .sent);
+  stays = λ h. (refl, refl);
+}
 
 pub grows-then : {b c d : View} → Grows b c → Grows c d → Grows b d
 grows-then {b} {c} {d} p q = record {

@@ -1,9 +1,9 @@
--- The inner theorem: agreement in any group of bases that move by the start and the arrival of document 01, where a message that arrives over a good link is
--- in its sender's log. It asks nothing of faulty links, nothing of order or repetition, and of n only what Premises ask. Which events a net knows, and what
--- it turns down, is the outer layer's.
+-- The inner theorem: agreement in any group of bases that move by the start and the arrival of document 01, where a message that arrives
+-- over a good link is in its sender's log. It asks nothing of faulty links, nothing of order or repetition, and of n only what Premises
+-- ask. Which events a net knows, and what it turns down, is the outer layer's.
 use Prim.Native.Nat.{ℕ, _≤_, _<_}
-use mathlib.Core.Path.{_≡_, refl, sym, ap, _∙_, subst}
-use mathlib.Core.Logic.{_≢_, _⊎_, inl, inr}
+use mathlib.Core.Path.{_≡_}
+use mathlib.Core.Logic.{_≢_, _⊎_}
 use mathlib.Core.Bool.{Bool, true, false}
 use mathlib.Core.List.{List, [], _++_}
 use lib.ListN.{length}
@@ -15,7 +15,7 @@ use Rattle.protocol.specs.Sound.{idle, recordRefusal}
 use Rattle.protocol.specs.Steps.{Done, startStep, arrivalStep}
 use Rattle.protocol.specs.Net.{replaced}
 use Rattle.protocol.specs.Agreement.Views.{Said}
-use Rattle.protocol.specs.Agreement.Invariant.{Premises, broadcastAt}
+use Rattle.protocol.specs.Agreement.Invariant.{broadcastAt}
 use Rattle.protocol.specs.Agreement.Observers.{placeOf}
 pub mod Begins
 pub mod Moves
@@ -39,11 +39,11 @@ pub record Group : Type 0 where
   pub handed : ℕ → ℕ → ℕ → Bool
 
 -- the group after a call at the base y
-unfoldable pub called : Group → ℕ → Done → (ℕ → ℕ → ℕ → Bool) → Group
-called N y d handed = record { base = replaced y (d .base) (N .base); log = replaced y (N .log y ++ d .says) (N .log); handed = handed }
+unfoldable pub groupAfter : Group → ℕ → Done → (ℕ → ℕ → ℕ → Bool) → Group
+groupAfter N y d handed = record { base = replaced y (d .base) (N .base); log = replaced y (N .log y ++ d .says) (N .log); handed = handed }
 
 -- the group at the beginning: idle bases, no broadcast, nothing handed over
-pub record Fresh (n t : ℕ) (id : ℕ → ℕ) (N : Group) : Type 0 where
+pub record FreshGroup (n t : ℕ) (id : ℕ → ℕ) (N : Group) : Type 0 where
   pub member : (x : ℕ) → x < n → Member n t (id x) (N .base x)
   pub idle : (x : ℕ) → x < n → idle (N .base x) ≡ true
   pub silent : (x : ℕ) → x < n → N .log x ≡ []
@@ -51,21 +51,25 @@ pub record Fresh (n t : ℕ) (id : ℕ → ℕ) (N : Group) : Type 0 where
 
 -- broadcasts that count as handed over after m has arrived at y from x: those that did before, and those of x's log that are m
 abbrev pub HandedOver : Group → ℕ → ℕ → Message → (ℕ → ℕ → ℕ → Bool) → Type 0
-HandedOver N x y m handed = (a c k : ℕ) → handed a c k ≡ true → (N .handed a c k ≡ true) ⊎ ((a ≡ x) × (c ≡ y) × (k < length (N .log x)) × (broadcastAt (N .log x) k ≡ m))
+HandedOver N x y m handed = (a c k : ℕ) → handed a c k ≡ true
+    → (N .handed a c k ≡ true) ⊎ ((a ≡ x) × (c ≡ y) × (k < length (N .log x)) × (broadcastAt (N .log x) k ≡ m))
 
 -- the groups that can be reached from it
-pub data Reached (n t : ℕ) (faulty : ℕ → ℕ → ℕ) (id : ℕ → ℕ) : Group → Type 0 where
-  fresh : {N : Group} → Fresh n t id N → Reached n t faulty id N
+pub data ReachedGroup (n t : ℕ) (faulty : ℕ → ℕ → ℕ) (id : ℕ → ℕ) : Group → Type 0 where
+  fresh : {N : Group} → FreshGroup n t id N → ReachedGroup n t faulty id N
   -- a start at y
-  starts : {N : Group} → Reached n t faulty id N → (y : ℕ) → y < n → Reached n t faulty id (called N y (startStep (N .base y)) (N .handed))
+  starts : {N : Group} → ReachedGroup n t faulty id N → (y : ℕ) → y < n
+      → ReachedGroup n t faulty id (groupAfter N y (startStep (N .base y)) (N .handed))
   -- a valid message arrives at y on its link to x: on a good link it is in x's log
-  arrives : {N : Group} → Reached n t faulty id N → (x y : ℕ) (m : Message) (handed : ℕ → ℕ → ℕ → Bool) → x < n → y < n → x ≢ y → Valid n m
+  arrives : {N : Group} → ReachedGroup n t faulty id N → (x y : ℕ) (m : Message) (handed : ℕ → ℕ → ℕ → Bool) → x < n → y < n → x ≢ y
+      → Valid n m
       → (faulty x y ≡ 0 → Said m (N .log x)) → HandedOver N x y m handed
-      → Reached n t faulty id (called N y (arrivalStep (N .base y) (placeOf y x) m) handed)
+      → ReachedGroup n t faulty id (groupAfter N y (arrivalStep (N .base y) (placeOf y x) m) handed)
 
 -- what the theorem says of a group that was reached
 pub record Agrees (n : ℕ) (faulty : ℕ → ℕ → ℕ) (truth : List ℕ) (N : Group) : Type 0 where
   pub states : (x : ℕ) (v : List ℕ) → x < n → Said (correctFinal v) (N .log x) → (2 ≤ N .base x .state) × (N .base x .state ≤ 3)
   pub finals : (x : ℕ) (v : List ℕ) → x < n → Said (correctFinal v) (N .log x) → (v ≡ truth) × (finalList (N .base x) ≡ truth)
-  pub ends : ((x : ℕ) → x < n → 1 ≤ N .base x .state) → ((x y k : ℕ) → x < n → y < n → x ≢ y → faulty x y ≡ 0 → k < length (N .log x) → N .handed x y k ≡ true)
+  pub ends : ((x : ℕ) → x < n → 1 ≤ N .base x .state)
+      → ((x y k : ℕ) → x < n → y < n → x ≢ y → faulty x y ≡ 0 → k < length (N .log x) → N .handed x y k ≡ true)
       → (x : ℕ) → x < n → Said (correctFinal truth) (N .log x)

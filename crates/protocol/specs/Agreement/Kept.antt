@@ -7,17 +7,18 @@ pub mod Logs
 pub mod Finals
 pub mod Deliveries
 
-pub kept : (n t : ℕ) (faulty : ℕ → ℕ → ℕ) (id : ℕ → ℕ) (truth : List ℕ) → Premises n t faulty id truth → (N M : State) → Invariant n t faulty id truth N → NetStep n t faulty id N M
+pub kept : (n t : ℕ) (faulty : ℕ → ℕ → ℕ) (id : ℕ → ℕ) (truth : List ℕ) → Premises n t faulty id truth → (N M : State)
+    → Invariant n t faulty id truth N → NetStep n t faulty id N M
     → Invariant n t faulty id truth M
 kept n t faulty id truth P N M I S = record {
   sound = Logs.sound-kept n t faulty id truth N M I S;
   settled = Logs.settled-kept n t faulty id truth N M I S;
   backed = Logs.backed-kept n t faulty id truth N M I S;
-  start-told = Logs.start-told-kept n t faulty id truth N M I S;
-  names-told = Logs.names-told-kept n t faulty id truth N M I S;
-  vote-told = Logs.vote-told-kept n t faulty id truth N M I S;
+  start-said = Logs.start-said-kept n t faulty id truth N M I S;
+  names-said = Logs.names-said-kept n t faulty id truth N M I S;
+  vote-said = Logs.vote-said-kept n t faulty id truth N M I S;
   vote-one = Logs.vote-one-kept n t faulty id truth N M I S;
-  stop-told = Logs.stop-told-kept n t faulty id truth N M I S;
+  stop-said = Logs.stop-said-kept n t faulty id truth N M I S;
   heard = Logs.heard-kept n t faulty id truth N M I S;
   delivered = Deliveries.delivered-kept n t faulty id truth N M I S;
   final-true = Finals.final-true-kept n t faulty id truth P N M I S;

@@ -1,23 +1,23 @@
--- The net at rest: every base has stopped. At least two bases are untouched and so have stopped; every running base then holds two Correct-Finals of the
--- truth, has sent a Verify-Final, and passes the secondary check.
-use Prim.Native.Nat.{ℕ, _+_, _*_, _≤_, _<_}
-use mathlib.Core.Path.{_≡_, refl, sym, _∙_}
-use mathlib.Core.Logic.{_≢_, _⊎_, inl, inr}
-use mathlib.Core.Bool.{true, false}
+-- The net at rest: every base has stopped. At least two bases are untouched and so have stopped; every running base then holds two
+-- Correct-Finals of the truth, has sent a Verify-Final, and passes the secondary check.
+use Prim.Native.Nat.{ℕ, _≤_, _<_}
+use mathlib.Core.Path.{_≡_, refl, sym}
+use mathlib.Core.Logic.{_≢_, inl, inr}
+use mathlib.Core.Bool.{false}
 use mathlib.Core.List.{List}
 use native.Mathlib.Omega.{arith}
 use borrow.Author.Tests.{eq-eqb, ne-eqb}
 use lib.Dec.{eqb}
-use Rattle.counting.specs.Sums.{sum}
 use Rattle.counting.specs.Sums.Laws.{sum-term}
 use Rattle.counting.specs.Counts.{TwoOf}
-use Rattle.counting.specs.Degrees.{degree, total, untouched, untouched-none, two-untouched}
-use Rattle.counting.specs.Spread.{Reached}
+use Rattle.counting.specs.Degrees.{untouched, untouched-none, two-untouched}
+use Rattle.counting.specs.Spread.{TouchedBy}
 use Rattle.lists.specs.Choice.Laws.{clash}
 use Rattle.protocol.specs.Agreement.Cases.{zero-or-more}
 use Rattle.protocol.specs.Agreement.Views.{corrects, holdsOf, Secondary}
 use Rattle.protocol.specs.Agreement.Invariant.{Premises, State, Invariant}
-use Rattle.protocol.specs.Agreement.Liveness.Hears.{AtRest, running-or-not, hears-two, Tells, tells-truth, twice-faulty, silent, tells}
+use Rattle.protocol.specs.Agreement.Liveness.Hears.{AtRest, running-or-not, hears-two, HeardFrom}
+use Rattle.protocol.specs.Agreement.Liveness.Hears.{tells-truth, twice-faulty, silent, tells}
 use Rattle.protocol.specs.Agreement.Liveness.Tally.{tally-enough}
 use Rattle.protocol.specs.Agreement.Liveness.Untouched.{untouched-stopped}
 pub mod Hears
@@ -43,12 +43,13 @@ module _ (n t : ℕ) (faulty : ℕ → ℕ → ℕ) (id : ℕ → ℕ) (truth : 
 
   -- a running base holds the Correct-Finals of the two
   two-held : (y : ℕ) → y < n → N .base y .state ≡ 1 → 2 ≤ corrects n (N .base y) truth
-  two-held y l runs = hears-two n t faulty id truth P N I R y p q l (clear .one-below) (clear .other-below) (clear .apart) (good-p y l) (good-q y l) runs
+  two-held y l runs =
+      hears-two n t faulty id truth P N I R y p q l (clear .one-below) (clear .other-below) (clear .apart) (good-p y l) (good-q y l) runs
       (untouched-stopped n t faulty id truth P N I R p (clear .one-below) (untouched-none n faulty p (clear .one-passes)))
       (untouched-stopped n t faulty id truth P N I R q (clear .other-below) (untouched-none n faulty q (clear .other-passes)))
 
   module _ (y : ℕ) (y-in : y < n) (runs : N .base y .state ≡ 1) where
-    missed : (x : ℕ) → x < n → x ≢ y → holdsOf (N .base y) truth x ≡ false → (eqb y x ≡ false) × Reached n faulty (eqb y) x
+    missed : (x : ℕ) → x < n → x ≢ y → holdsOf (N .base y) truth x ≡ false → (eqb y x ≡ false) × TouchedBy n faulty (eqb y) x
     missed x l ne none = (
       ne-eqb y x (λ e. ne (sym e)),
       elim (zero-or-more (faulty x y)) [
@@ -57,7 +58,7 @@ module _ (n t : ℕ) (faulty : ℕ → ℕ → ℕ) (id : ℕ → ℕ) (truth : 
       ],
     )
       where
-        reached : Tells n t faulty id truth P N I R y x → Reached n faulty (eqb y) x
+        reached : HeardFrom n t faulty id truth P N I R y x → TouchedBy n faulty (eqb y) x
         reached (tells-truth h) = clash h none
         reached (twice-faulty h) = inl h
         reached (silent s few) = absurd (omega (arith, two-held x l s))

@@ -1,5 +1,5 @@
--- A record as the argument sees it. The files below tie the view to the record: what is counted over links is counted over bases, the checks hold of the
--- record exactly if they hold of its view, and the steps of document 01 are calls as the argument knows them.
+-- A record as the argument sees it. The files below tie the view to the record: what is counted over links is counted over bases, the
+-- checks hold of the record exactly if they hold of its view, and the steps of document 01 are calls as the argument knows them.
 use Prim.Native.Nat.{ℕ, suc, _-_}
 use lib.Dec.{eqb}
 use Rattle.lists.specs.Choice.{choose}

@@ -1,5 +1,5 @@
--- The premise of the statement can be met, in every net size: the idle records that are made from n, t and different identifiers of 32 bits are a net at the
--- beginning. So the statement is about something.
+-- The premise of the statement can be met, in every net size: the idle records that are made from n, t and different identifiers of 32 bits
+-- are a net at the beginning. So the statement is about something.
 use Prim.Native.Nat.{ℕ, _^_, _≤_, _<_}
 use mathlib.Core.Path.{_≡_, refl, sym, _∙_, subst}
 use mathlib.Core.Bool.{false}
@@ -25,10 +25,12 @@ unfolding idleBase linkAt
 idle-sized n t own = record {
   final = length-replicate {A = ℕ} mostBases 0;
   links = length-replicate mostLinks emptyLink;
-  each = λ i h. subst SizedLink (sym (getD-replicate mostLinks i emptyLink noLink h)) (record { verifies = length-replicate {A = ℕ} listRoom 0; list = length-replicate {A = ℕ} mostBases 0 });
+  each = λ i h. subst SizedLink (sym (getD-replicate mostLinks i emptyLink noLink h))
+      (record { verifies = length-replicate {A = ℕ} listRoom 0; list = length-replicate {A = ℕ} mostBases 0 });
 }
 
-pub idle-fresh : (n t : ℕ) (id : ℕ → ℕ) → NetSize n → t ≤ mostFaulty n → ((b : ℕ) → BaseOf n b → (1 ≤ id b) × (id b < 2 ^ 32)) → ((a b : ℕ) → BaseOf n a → BaseOf n b → id a ≡ id b → a ≡ b)
+pub idle-fresh : (n t : ℕ) (id : ℕ → ℕ) → NetSize n → t ≤ mostFaulty n → ((b : ℕ) → BaseOf n b → (1 ≤ id b) × (id b < 2 ^ 32))
+    → ((a b : ℕ) → BaseOf n a → BaseOf n b → id a ≡ id b → a ≡ b)
     → Fresh n t (idleNet n t id)
 unfolding idleNet
 idle-fresh n t id size limit range different = record {

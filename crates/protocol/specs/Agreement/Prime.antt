@@ -1,10 +1,10 @@
--- Safety of the prime check: a base that has n certified identifiers, one of them false, has more than t suspect pairs. An untouched base never certified
--- the false one, and a base with good links that lacks nothing would have certified n + 1; so nearly every base adds a suspect pair or a faulty link.
--- The test of the tallies' sum is not needed for this.
+-- Safety of the prime check: a base that has n certified identifiers, one of them false, has more than t suspect pairs. An untouched base
+-- never certified the false one, and a base with good links that lacks nothing would have certified n + 1; so nearly every base adds a
+-- suspect pair or a faulty link. The test of the tallies' sum is not needed for this.
 use Prim.Native.Nat.{ℕ, _+_, _≤_, _<_}
 use mathlib.Core.Path.{_≡_, sym, ap, _∙_}
 use mathlib.Core.Logic.{_≢_, _⊎_, inl, inr}
-use mathlib.Core.Bool.{true, false, not}
+use mathlib.Core.Bool.{true, not}
 use mathlib.Core.List.{List}
 use native.Mathlib.Decide.{ℕ-discrete}
 use native.Mathlib.Omega.{arith}
@@ -38,12 +38,15 @@ module _ (n t : ℕ) (faulty : ℕ → ℕ → ℕ) (id : ℕ → ℕ) (truth : 
 
     -- so one of the n true identifiers is not among the n that Y has
     missing : (Z : ℕ) × (Z < n) × ((j : ℕ) → j < n → base Y .named j ≢ id Z)
-    missing = elim (each-or-one n (λ z. Met n (base Y .named) (id z)) (λ z. (j : ℕ) → j < n → base Y .named j ≢ id z) (λ z l. turn z (met-or-not n (base Y .named) (id z)))) [
-      | inr w ↦ w
-      | inl met ↦ (let w = pigeonhole-onto n id (base Y .named) (P .ids-apart) met d d-in in absurd (false-name (w .0) (w .1) (w .2)))
-    ]
+    missing = go (each-or-one n _ _ (λ z l. turn z (met-or-not n (base Y .named) (id z))))
       where
-        turn : (z : ℕ) → ((j : ℕ) → j < n → base Y .named j ≢ id z) ⊎ ((j : ℕ) × (j < n) × (base Y .named j ≡ id z)) → Met n (base Y .named) (id z) ⊎ ((j : ℕ) → j < n → base Y .named j ≢ id z)
+        go : ((z : ℕ) → z < n → Met n (base Y .named) (id z)) ⊎ ((Z : ℕ) × (Z < n) × ((j : ℕ) → j < n → base Y .named j ≢ id Z))
+            → (Z : ℕ) × (Z < n) × ((j : ℕ) → j < n → base Y .named j ≢ id Z)
+        go (inl met) = let w = pigeonhole-onto n id (base Y .named) (P .ids-apart) met d d-in in absurd (false-name (w .0) (w .1) (w .2))
+        go (inr w) = w
+
+        turn : (z : ℕ) → ((j : ℕ) → j < n → base Y .named j ≢ id z) ⊎ ((j : ℕ) × (j < n) × (base Y .named j ≡ id z))
+            → Met n (base Y .named) (id z) ⊎ ((j : ℕ) → j < n → base Y .named j ≢ id z)
         turn z (inl h) = inr h
         turn z (inr w) = inl (w .0, w .1, sym (w .2))
 
@@ -59,7 +62,9 @@ module _ (n t : ℕ) (faulty : ℕ → ℕ → ℕ) (id : ℕ → ℕ) (truth : 
 
       -- a base x with good links to Y and Z whose link to Y lacks nothing has certified the n identifiers of Y, and that of Z besides
       lacks-something : (x : ℕ) → x < n → x ≢ Y → x ≢ Z → faulty x Y ≡ 0 → faulty x Z ≡ 0 → degree n (suspect Y (base Y)) x ≡ 0 → ⊥
-      lacks-something x l xY xZ goodY goodZ none = let r = pigeonhole-spare n n (base Y .named) (base x .named) apart has Z Z-in spare in omega arith
+      lacks-something x l xY xZ goodY goodZ none =
+          let r = pigeonhole-spare n n (base Y .named) (base x .named) apart has Z Z-in spare in
+          omega arith
         where
           has : (u : ℕ) → u < n → Met n (base x .named) (base Y .named u)
           has u k = elim (ℕ-discrete x u) [
@@ -93,7 +98,8 @@ module _ (n t : ℕ) (faulty : ℕ → ℕ → ℕ) (id : ℕ → ℕ) (truth : 
           certifies : Certified n (base x) (base Y .named d) → ⊥
           certifies w = elim (ℕ-discrete (w .0) x) [
             | yes e ↦ false-name x l (w .2 ∙ ap (base x .named) e ∙ own-named x l)
-            | no e ↦ false-name (w .0) (w .1) (w .2 ∙ heard-name x (w .0) l (w .1) e (P .symmetric (w .0) x ∙ good (w .0) (w .1)) (omega (arith, all-named d d-in, w .2)))
+            | no e ↦ false-name (w .0) (w .1)
+                (w .2 ∙ heard-name x (w .0) l (w .1) e (P .symmetric (w .0) x ∙ good (w .0) (w .1)) (omega (arith, all-named d d-in, w .2)))
           ]
 
       suspect-false : (x : ℕ) → x < n → x ≢ Y → x ≢ d → 1 ≤ suspect Y (base Y) d x + degree n faulty x
@@ -107,7 +113,8 @@ module _ (n t : ℕ) (faulty : ℕ → ℕ → ℕ) (id : ℕ → ℕ) (truth : 
         arith,
         P .few-faulty,
         P .enough,
-        suspicion n faulty (suspect Y (base Y)) (P .symmetric) Y Z d Y-in Z-in d-in not-missing not-own missing-link false-link some-suspect suspect-false,
+        suspicion n faulty (suspect Y (base Y)) (P .symmetric) Y Z d Y-in Z-in d-in not-missing not-own missing-link false-link some-suspect
+            suspect-false,
         pairs-twice n (suspect Y (base Y)) (suspect-symmetric Y (base Y)) (suspect-self Y (base Y)),
       )
 

@@ -1,5 +1,5 @@
--- Safety of the secondary check: a list that nobody has decided reaches a tally of at most t. On a good link it can only stand as a Verify-Final, and
--- whoever sent that held two Correct-Finals of a list that nobody decided, both on faulty links.
+-- Safety of the secondary check: a list that nobody has decided reaches a tally of at most t. On a good link it can only stand as a
+-- Verify-Final, and whoever sent that held two Correct-Finals of a list that nobody decided, both on faulty links.
 use Prim.Native.Nat.{ℕ, _≤_, _<_}
 use mathlib.Core.Path.{_≡_, refl, sym, ap, _∙_}
 use mathlib.Core.Logic.{_≢_, _⊎_, inl, inr}
@@ -13,7 +13,7 @@ use Rattle.lists.specs.Choice.{or}
 use Rattle.lists.specs.Choice.Laws.{or-true, clash}
 use Rattle.counting.specs.Counts.{count-below}
 use Rattle.counting.specs.Degrees.{degree}
-use Rattle.counting.specs.Spread.{Reached, spread}
+use Rattle.counting.specs.Spread.{TouchedBy, spread}
 use Rattle.protocol.specs.Agreement.Cases.{zero-or-more}
 use Rattle.protocol.specs.Agreement.Views.{View, corrects, holdsOf, tallyOf}
 use Rattle.protocol.specs.Agreement.Invariant.{Premises}
@@ -23,13 +23,13 @@ pub held-cases : (b : View) (v : List ℕ) (x : ℕ) → holdsOf b v x ≡ true 
 unfolding holdsOf
 held-cases b v x e = or-true (b .correct x v) (b .vote x v) e
 
-pub held-correct : (b : View) (v : List ℕ) (x : ℕ) → b .correct x v ≡ true → holdsOf b v x ≡ true
+pub correct-held : (b : View) (v : List ℕ) (x : ℕ) → b .correct x v ≡ true → holdsOf b v x ≡ true
 unfolding holdsOf or
-held-correct b v x e = rw e
+correct-held b v x e = rw e
 
-pub held-vote : (b : View) (v : List ℕ) (x : ℕ) → b .vote x v ≡ true → holdsOf b v x ≡ true
+pub vote-held : (b : View) (v : List ℕ) (x : ℕ) → b .vote x v ≡ true → holdsOf b v x ≡ true
 unfolding holdsOf
-held-vote b v x e = rw e (either (b .correct x v))
+vote-held b v x e = rw e (either (b .correct x v))
   where
     either : (t : Bool) → or t true ≡ true
     either true = unfold or in refl
@@ -60,7 +60,11 @@ module _ (n t : ℕ) (faulty : ℕ → ℕ → ℕ) (id : ℕ → ℕ) (truth : 
 
   pub undecided-tally : (Y : ℕ) → Y < n → tallyOf n (base Y) v ≤ t
   unfolding tallyOf
-  undecided-tally Y Y-in = omega (arith, P .few-faulty, spread n faulty (P .symmetric) (eqb Y) (holdsOf (base Y) v) (λ x l h. (ne-eqb Y x (away x h), reached x l h)))
+  undecided-tally Y Y-in = omega (
+    arith,
+    P .few-faulty,
+    spread n faulty (P .symmetric) (eqb Y) (holdsOf (base Y) v) (λ x l h. (ne-eqb Y x (away x h), reached x l h)),
+  )
     where
       away : (x : ℕ) → holdsOf (base Y) v x ≡ true → Y ≢ x
       away x h e = elim (held-cases (base Y) v x h) [
@@ -68,7 +72,7 @@ module _ (n t : ℕ) (faulty : ℕ → ℕ → ℕ) (id : ℕ → ℕ) (truth : 
         | inr c ↦ clash (ap (λ z. base Y .vote z v) e ∙ c) (own-vote Y v Y-in)
       ]
 
-      reached : (x : ℕ) → x < n → holdsOf (base Y) v x ≡ true → Reached n faulty (eqb Y) x
+      reached : (x : ℕ) → x < n → holdsOf (base Y) v x ≡ true → TouchedBy n faulty (eqb Y) x
       reached x l h = elim (zero-or-more (faulty x Y)) [
         | inr f ↦ inr (Y, Y-in, eq-eqb Y Y refl, f)
         | inl good ↦ elim (held-cases (base Y) v x h) [

@@ -1,5 +1,5 @@
--- A message is stored on a link: what is held stays, and only the message is new. So a message changes the checks by what it is about alone: a vector message
--- leaves the prime check as it was, and no message raises the counts of a list that it does not hold.
+-- A message is stored on a link: what is held stays, and only the message is new. So a message changes the checks by what it is about
+-- alone: a vector message leaves the prime check as it was, and no message raises the counts of a list that it does not hold.
 use Prim.Native.Nat.{ℕ, _≤_, _<_}
 use mathlib.Core.Path.{_≡_, refl, sym, ap, ap₂, _∙_, subst}
 use mathlib.Core.Logic.{_≢_, _⊎_, inl, inr}
@@ -18,9 +18,9 @@ use Rattle.counting.specs.Degrees.{total}
 use Rattle.frame.specs.Message.{Message, announce, verify, correctFinal, verifyFinal}
 use Rattle.lists.specs.Choice.Laws.{clash}
 use Rattle.protocol.specs.Agreement.Cases.{zero-or-more, true-or-false, impossible}
-use Rattle.protocol.specs.Agreement.Views.{View, Holds, corrects, holdsOf, tallyOf, lacks, suspect, Prime, Secondary}
+use Rattle.protocol.specs.Agreement.Views.{View, ViewHolds, corrects, holdsOf, tallyOf, lacks, suspect, Prime, Secondary}
 use Rattle.protocol.specs.Agreement.Calls.{Grows}
-use Rattle.protocol.specs.Agreement.Secondary.{held-cases, held-correct, held-vote}
+use Rattle.protocol.specs.Agreement.Secondary.{held-cases, correct-held, vote-held}
 
 -- a vector message, and the list that it holds
 abbrev pub Vector : Message → Type 0
@@ -51,11 +51,12 @@ list-or-not (verifyFinal u) v = elim (List-discrete ℕ-discrete u v) [ yes e �
 pub record Stored (x : ℕ) (m : Message) (b a : View) : Type 0 where
   pub state : a .state ≡ b .state
   pub grows : Grows b a
-  pub heard : (y : ℕ) (w : Message) → Holds a y w → Holds b y w ⊎ ((y ≡ x) × (w ≡ m))
-  pub here : Holds a x m
+  pub heard : (y : ℕ) (w : Message) → ViewHolds a y w → ViewHolds b y w ⊎ ((y ≡ x) × (w ≡ m))
+  pub here : ViewHolds a x m
 
 -- the prime check goes by names and Verifies alone
-prime-same : (n t me : ℕ) (a b : View) → ((y : ℕ) → a .named y ≡ b .named y) → ((y g : ℕ) → member g (a .verifies y) ≡ member g (b .verifies y)) → Prime n t me a → Prime n t me b
+prime-same : (n t me : ℕ) (a b : View) → ((y : ℕ) → a .named y ≡ b .named y)
+    → ((y g : ℕ) → member g (a .verifies y) ≡ member g (b .verifies y)) → Prime n t me a → Prime n t me b
 prime-same n t me a b names verifies P = record {
   all-named = λ y l. subst (λ g. 1 ≤ g) (names y) (P .all-named y l);
   tallies = omega (arith, P .tallies, tallies-same);
@@ -111,7 +112,8 @@ module _ (x : ℕ) (m : Message) (b a : View) (S : Stored x m b a) where
 
   pub stored-corrects : (n : ℕ) (v : List ℕ) → m ≢ correctFinal v → corrects n a v ≤ corrects n b v
   unfolding corrects
-  stored-corrects n v ne = count-fewer n (λ y. a .correct y v) (λ y. b .correct y v) (λ y l h. elim (S .heard y (correctFinal v) h) [ inl k ↦ k | inr k ↦ absurd (ne (sym (k .1))) ])
+  stored-corrects n v ne = count-fewer n (λ y. a .correct y v) (λ y. b .correct y v)
+      (λ y l h. elim (S .heard y (correctFinal v) h) [ inl k ↦ k | inr k ↦ absurd (ne (sym (k .1))) ])
 
   pub stored-secondary : (n t : ℕ) (v : List ℕ) → (ListOf m v → ⊥) → Secondary n t a v → Secondary n t b v
   unfolding tallyOf
@@ -134,6 +136,6 @@ module _ (x : ℕ) (m : Message) (b a : View) (S : Stored x m b a) where
 
       held : (y : ℕ) → y < n → holdsOf a v y ≡ true → holdsOf b v y ≡ true
       held y l h = elim (held-cases a v y h) [
-        | inl c ↦ elim (S .heard y (correctFinal v) c) [ inl k ↦ held-correct b v y k | inr k ↦ absurd (other (list-of m (sym (k .1)))) ]
-        | inr c ↦ elim (S .heard y (verifyFinal v) c) [ inl k ↦ held-vote b v y k | inr k ↦ absurd (other (list-of-vote m (sym (k .1)))) ]
+        | inl c ↦ elim (S .heard y (correctFinal v) c) [ inl k ↦ correct-held b v y k | inr k ↦ absurd (other (list-of m (sym (k .1)))) ]
+        | inr c ↦ elim (S .heard y (verifyFinal v) c) [ inl k ↦ vote-held b v y k | inr k ↦ absurd (other (list-of-vote m (sym (k .1)))) ]
       ]

@@ -1,4 +1,5 @@
--- Laws of suspect pairs as a table over the bases: it is symmetric, its diagonal is empty, and an entry is zero exactly if neither side lacks the other.
+-- Laws of suspect pairs as a table over the bases: it is symmetric, its diagonal is
+-- empty, and an entry is zero exactly if neither side lacks the other.
 use Prim.Native.Nat.{ℕ, _≤_}
 use mathlib.Core.Path.{_≡_, refl, sym, ap, ap₂, _∙_}
 use mathlib.Core.Logic.{_≢_}

@@ -1,5 +1,6 @@
--- What the agreement argument sees of a base. Nothing above this file and the laws in Observers looks into a record, so a record that holds the same in
--- another way changes those laws alone. Bases are numbered from 0 here, so that sums run over 0 .. n - 1: x stands for base x + 1 of document 01.
+-- What the agreement argument sees of a base. Nothing above this file and the laws in Observers looks
+-- into a record, so a record that holds the same in another way changes those laws alone. Bases are
+-- numbered from 0 here, so that sums run over 0 .. n - 1: x stands for base x + 1 of document 01.
 use Prim.Native.Nat.{ℕ, _+_, _*_, _≤_, _<_}
 use mathlib.Core.Path.{_≡_}
 use mathlib.Core.Bool.{Bool, true, not}
@@ -33,11 +34,11 @@ abbrev pub Said : Message → List Message → Type 0
 Said m log = List·Memᴰ m log
 
 -- the link to x holds a message
-abbrev pub Holds : View → ℕ → Message → Type 0
-Holds b x (announce g) = (1 ≤ g) × (b .named x ≡ g)
-Holds b x (verify g) = member g (b .verifies x) ≡ true
-Holds b x (correctFinal v) = b .correct x v ≡ true
-Holds b x (verifyFinal v) = b .vote x v ≡ true
+abbrev pub ViewHolds : View → ℕ → Message → Type 0
+ViewHolds b x (announce g) = (1 ≤ g) × (b .named x ≡ g)
+ViewHolds b x (verify g) = member g (b .verifies x) ≡ true
+ViewHolds b x (correctFinal v) = b .correct x v ≡ true
+ViewHolds b x (verifyFinal v) = b .vote x v ≡ true
 
 -- "Certified: the own identifier and every accepted Announce identifier."
 abbrev pub Certified : ℕ → View → ℕ → Type 0

@@ -1,4 +1,5 @@
--- The two numberings undo each other, and stay within a net: link k of a base goes to another base, and each other base is at the end of one link.
+-- The two numberings undo each other, and stay within a net: link k of a base goes to
+-- another base, and each other base is at the end of one link.
 use Prim.Native.Nat.{ℕ, _+_, _-_, _≤_, _<_}
 use mathlib.Core.Path.{_≡_, sym, ap, _∙_}
 use mathlib.Core.Logic.{_≢_}

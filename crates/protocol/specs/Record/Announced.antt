@@ -28,7 +28,8 @@ unfolding announced
 announced-skip k at e = choose-no _ _ e
 
 -- what both ways of the next place keep holds of all
-pub announced-ind : (P : ℕ → List ℕ → Type 0) (at : ℕ → Link) → P 0 [] → ((k : ℕ) → announces (at k) ≡ true → P k (announced k at) → P (suc k) (at k .announce ∷ announced k at))
+pub announced-ind : (P : ℕ → List ℕ → Type 0) (at : ℕ → Link) → P 0 []
+    → ((k : ℕ) → announces (at k) ≡ true → P k (announced k at) → P (suc k) (at k .announce ∷ announced k at))
     → ((k : ℕ) → announces (at k) ≡ false → P k (announced k at) → P (suc k) (announced k at)) → (k : ℕ) → P k (announced k at)
 unfolding announced
 announced-ind P at none one skip zero = none
@@ -38,7 +39,8 @@ announced-ind P at none one skip (suc k) = go (announced-ind P at none one skip 
     go p = choose-ind (P (suc k)) (announces (at k)) (λ e. one k e p) (λ e. skip k e p)
 
 pub length-announced : (k : ℕ) (at : ℕ → Link) → length (announced k at) ≤ k
-length-announced k at = announced-ind (λ (j : ℕ) (l : List ℕ). length l ≤ j) at (omega arith) (λ j e h. omega arith) (λ j e h. omega arith) k
+length-announced k at =
+    announced-ind (λ (j : ℕ) (l : List ℕ). length l ≤ j) at (omega arith) (λ j e h. omega arith) (λ j e h. omega arith) k
 
 pub nonzero-announced : (k : ℕ) (at : ℕ → Link) → nonzero (announced k at) ≡ true
 unfolding nonzero announces
@@ -57,15 +59,18 @@ announced-same zero at new same = refl
 announced-same (suc k) at new same = rw (same k (le-refl (suc k)), announced-same k at new (λ i h. same i (omega arith)))
 
 -- where one link more announces
-pub announced-more : (k : ℕ) (at new : ℕ → Link) (i g : ℕ) → i < k → announces (at i) ≡ false → 1 ≤ g → new i .announce ≡ g → ((j : ℕ) → j ≢ i → new j ≡ at j) → Inserted g (announced k at) (announced k new)
+pub announced-more : (k : ℕ) (at new : ℕ → Link) (i g : ℕ) → i < k → announces (at i) ≡ false → 1 ≤ g → new i .announce ≡ g
+    → ((j : ℕ) → j ≢ i → new j ≡ at j) → Inserted g (announced k at) (announced k new)
 announced-more zero at new i g h silent some is other = absurd (omega arith)
 announced-more (suc k) at new i g h silent some is other = elim (ℕ-discrete k i) [
-  | yes e ↦ subst₂ (Inserted g) (sym (announced-skip k at (ap (λ (j : ℕ). announces (at j)) e ∙ silent))) (sym (announced-next k new (some-announces (new k) (omega (arith, ap (λ (j : ℕ). new j .announce) e))) ∙ first e)) here
+  | yes e ↦ subst₂ (Inserted g) (sym (announced-skip k at (ap (λ (j : ℕ). announces (at j)) e ∙ silent)))
+      (sym (announced-next k new (some-announces (new k) (omega (arith, ap (λ (j : ℕ). new j .announce) e))) ∙ first e)) here
   | no e ↦ rest e (announced-more k at new i g (omega arith) silent some is other)
 ]
   where
     first : k ≡ i → new k .announce ∷ announced k new ≡ g ∷ announced k at
-    first e = ap₂ _∷_ (ap (λ (j : ℕ). new j .announce) e ∙ is) (announced-same k at new (λ j l. ap (λ (x : Link). x .announce) (other j (λ q. omega (arith, q, e)))))
+    first e = ap₂ _∷_ (ap (λ (j : ℕ). new j .announce) e ∙ is)
+        (announced-same k at new (λ j l. ap (λ (x : Link). x .announce) (other j (λ q. omega (arith, q, e)))))
 
     rest : k ≢ i → Inserted g (announced k at) (announced k new) → Inserted g (announced (suc k) at) (announced (suc k) new)
     rest e I = go (announces (at k)) refl
@@ -74,7 +79,8 @@ announced-more (suc k) at new i g h silent some is other = elim (ℕ-discrete k 
         same = ap announces (other k e)
 
         go : (t : Bool) → announces (at k) ≡ t → Inserted g (announced (suc k) at) (announced (suc k) new)
-        go true p = subst₂ (Inserted g) (sym (announced-next k at p)) (sym (announced-next k new (same ∙ p) ∙ ap (λ (x : Link). x .announce ∷ announced k new) (other k e))) (there I)
+        go true p = subst₂ (Inserted g) (sym (announced-next k at p))
+            (sym (announced-next k new (same ∙ p) ∙ ap (λ (x : Link). x .announce ∷ announced k new) (other k e))) (there I)
         go false p = subst₂ (Inserted g) (sym (announced-skip k at p)) (sym (announced-skip k new (same ∙ p))) I
 
 -- ---- certified

@@ -11,10 +11,12 @@ use Rattle.protocol.specs.Links.{noLink}
 use Rattle.protocol.specs.Record.{linkAt, linkCount}
 
 -- ---- two records are one if their fields are
-pub link-same : {k l : Link} → k .announce ≡ l .announce → k .verifies ≡ l .verifies → k .list ≡ l .list → k .«verify_count» ≡ l .«verify_count» → k .held ≡ l .held → k ≡ l
+pub link-same : {k l : Link} → k .announce ≡ l .announce → k .verifies ≡ l .verifies → k .list ≡ l .list
+    → k .«verify_count» ≡ l .«verify_count» → k .held ≡ l .held → k ≡ l
 link-same a v s c h = λ i. record { announce = a i; verifies = v i; list = s i; «verify_count» = c i; held = h i }
 
-pub base-same : {b c : Base} → b .n ≡ c .n → b .t ≡ c .t → b .state ≡ c .state → b .sent ≡ c .sent → b .own ≡ c .own → b .«final_list» ≡ c .«final_list» → b .links ≡ c .links → b ≡ c
+pub base-same : {b c : Base} → b .n ≡ c .n → b .t ≡ c .t → b .state ≡ c .state → b .sent ≡ c .sent → b .own ≡ c .own
+    → b .«final_list» ≡ c .«final_list» → b .links ≡ c .links → b ≡ c
 base-same n t s v o f l = λ i. record { n = n i; t = t i; state = s i; sent = v i; own = o i; «final_list» = f i; links = l i }
 
 -- ---- links

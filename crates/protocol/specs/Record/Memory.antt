@@ -1,5 +1,5 @@
--- What a record in memory always has: its arrays' lengths, and identifiers of 32 bits. In antt a list may have any length and hold any number, so
--- theorems about a record say both beside it. Every call keeps them.
+-- What a record in memory always has: its arrays' lengths, and identifiers of 32 bits. In antt a list may have any length and hold any
+-- number, so theorems about a record say both beside it. Every call keeps them.
 use Prim.Native.Nat.{ℕ, _^_, _<_}
 use mathlib.Core.Path.{_≡_}
 use lib.ListN.{length}

@@ -42,21 +42,25 @@ module _ {n : ℕ} {l : Link} (P : LinkParts n l) where
   unfolding withVector verifiesOf heldSound used announces
   vector-parts kind v k L = record { room = P .room; above-zero = P .above-zero; apart = P .apart; behind = P .behind; held = held k }
     where
-      held : (kind ≡ 3) ⊎ (kind ≡ 4) → choose (eqb kind 0) (zeros (padTo mostBases v)) (and (or (eqb kind 3) (eqb kind 4)) (listSound n (padTo mostBases v))) ≡ true
+      held : (kind ≡ 3) ⊎ (kind ≡ 4)
+          → choose (eqb kind 0) (zeros (padTo mostBases v)) (and (or (eqb kind 3) (eqb kind 4)) (listSound n (padTo mostBases v))) ≡ true
       held (inl e) = unfold choose and or in rw e (parts-list L)
       held (inr e) = unfold choose and or in rw e (parts-list L)
 
   -- a Verify stands behind those that were there
   verifies-longer : (g : ℕ) → l .«verify_count» < length (l .verifies) → verifiesOf (withVerify l g) ≡ verifiesOf l ++ (g ∷ [])
   unfolding verifiesOf withVerify
-  verifies-longer g h = ap (λ (k : ℕ). take k (set (l .verifies) (l .«verify_count») g)) (add-one (l .«verify_count»)) ∙ take-suc-set (l .verifies) (l .«verify_count») g h
+  verifies-longer g h = ap (λ (k : ℕ). take k (set (l .verifies) (l .«verify_count») g)) (add-one (l .«verify_count»))
+      ∙ take-suc-set (l .verifies) (l .«verify_count») g h
 
   verifies-behind : (g : ℕ) → zeros (drop (l .«verify_count» + 1) (set (l .verifies) (l .«verify_count») g)) ≡ true
   verifies-behind g =
-      ap zeros (drop-set-lt (l .«verify_count» + 1) (l .verifies) (l .«verify_count») g (omega arith) ∙ sym (drop-drop 1 (l .«verify_count») (l .verifies)))
+      ap zeros (drop-set-lt (l .«verify_count» + 1) (l .verifies) (l .«verify_count») g (omega arith)
+      ∙ sym (drop-drop 1 (l .«verify_count») (l .verifies)))
       ∙ zeros-drop 1 (drop (l .«verify_count») (l .verifies)) (P .behind)
 
-  pub verify-parts : (g : ℕ) → nonzero (g ∷ []) ≡ true → holdsVerify l g ≡ false → full n l ≡ false → l .«verify_count» < length (l .verifies) → LinkParts n (withVerify l g)
+  pub verify-parts : (g : ℕ) → nonzero (g ∷ []) ≡ true → holdsVerify l g ≡ false → full n l ≡ false
+      → l .«verify_count» < length (l .verifies) → LinkParts n (withVerify l g)
   verify-parts g some new f h = record {
     room = room (not-full n l f);
     above-zero = ap nonzero (verifies-longer g h) ∙ nonzero-snoc (verifiesOf l) g (P .above-zero) some;

@@ -1,5 +1,5 @@
--- An idle record is canonical: a sound one equals the record that is made from n, t and the own identifier, since every place not in use is zero.
--- And such a record is sound, so that it is turned down by numbers 1 to 3 alone.
+-- An idle record is canonical: a sound one equals the record that is made from n, t and the own identifier, since every place not in use is
+-- zero. And such a record is sound, so that it is turned down by numbers 1 to 3 alone.
 use Prim.Native.Nat.{ℕ, _-_, _<_}
 use mathlib.Core.Path.{_≡_, refl, sym, ap, _∙_}
 use mathlib.Core.Bool.{true, false, not}
@@ -23,15 +23,18 @@ use Rattle.protocol.specs.Record.{linkAt, linkCount, certified}
 use Rattle.protocol.specs.Record.Laws.{link-same, base-same, link-room}
 use Rattle.protocol.specs.Record.Announced.{announced-none}
 use Rattle.protocol.specs.Record.Memory.{SizedLink, Sized}
-use Rattle.protocol.specs.Sound.{heldSound, linkEmpty, linkSound, placeSound, linksEmpty, idle, stopped, finalSound, idleSound, sound, settingRefusal, recordRefusal, emptyLink, idleBase}
-use Rattle.protocol.specs.Sound.Laws.{EmptyParts, sound-parts, parts-sound, idle-unsent, idle-place, final-running, record-passed, place-used, place-unused, parts-link}
+use Rattle.protocol.specs.Sound.{heldSound, linkEmpty, linkSound, placeSound, linksEmpty, idle, stopped}
+use Rattle.protocol.specs.Sound.{finalSound, idleSound, sound, settingRefusal, recordRefusal, emptyLink, idleBase}
+use Rattle.protocol.specs.Sound.Laws.{EmptyParts, sound-parts, parts-sound, idle-unsent, idle-place}
+use Rattle.protocol.specs.Sound.Laws.{final-running, record-passed, place-used, place-unused, parts-link}
 
 -- ---- a sound idle record is the canonical one
 zeros-of : (l : List ℕ) (k : ℕ) → zeros l ≡ true → length l ≡ k → l ≡ replicate k 0
 zeros-of l k e h = zeros-are l e ∙ ap (λ (j : ℕ). replicate j 0) h
 
 empty-canonical : (l : Link) → SizedLink l → EmptyParts l → l ≡ emptyLink
-empty-canonical l S E = link-same (E .announce) (zeros-of (l .verifies) listRoom (E .verifies) (S .verifies)) (zeros-of (l .list) mostBases (E .list) (S .list)) (E .count) (E .held)
+empty-canonical l S E = link-same (E .announce) (zeros-of (l .verifies) listRoom (E .verifies) (S .verifies))
+    (zeros-of (l .list) mostBases (E .list) (S .list)) (E .count) (E .held)
 
 idle-state : (b : Base) → idle b ≡ true → b .state ≡ 0
 unfolding idle
@@ -52,7 +55,9 @@ idle-canonical b S e off =
     base-same refl refl (idle-state b off) (idle-unsent b (P .idle) off) refl
     (zeros-of (b .«final_list») mostBases (final-running b (P .final) (idle-not-stopped b off)) (S .final))
     (ext-getD noLink (b .links) (replicate mostLinks emptyLink) (S .links)
-    (λ i h. let l : i < mostLinks = omega (arith, S .links) in empty-canonical (linkAt b i) (S .each i l) (idle-place b (P .idle) off i l) ∙ sym (getD-replicate mostLinks i emptyLink noLink l)))
+    (λ i h.
+    let l : i < mostLinks = omega (arith, S .links) in
+    empty-canonical (linkAt b i) (S .each i l) (idle-place b (P .idle) off i l) ∙ sym (getD-replicate mostLinks i emptyLink noLink l)))
 
 -- ---- the canonical one is sound
 module _ (n t own : ℕ) where
@@ -65,10 +70,19 @@ module _ (n t own : ℕ) where
   idle-silent i h = ap announces (idle-link i h)
 
   empty-sound : (i : ℕ) → placeSound n i emptyLink ≡ true
-  empty-sound i = elim (decLt i (n - 1)) [ yes h ↦ place-used n i emptyLink h ∙ in-use | no h ↦ place-unused n i emptyLink (omega (arith, h)) ∙ empty ]
+  empty-sound i = elim (decLt i (n - 1)) [
+    | yes h ↦ place-used n i emptyLink h ∙ in-use
+    | no h ↦ place-unused n i emptyLink (omega (arith, h)) ∙ empty
+  ]
     where
       in-use : linkSound n emptyLink ≡ true
-      in-use = parts-link (unfold used verifiesOf announces bit nonzero distinct zeros and heldSound choose in record { room = omega arith; above-zero = refl; apart = refl; behind = refl; held = refl })
+      in-use = parts-link (unfold used verifiesOf announces bit nonzero distinct zeros and heldSound choose in record {
+        room = omega arith;
+        above-zero = refl;
+        apart = refl;
+        behind = refl;
+        held = refl;
+      })
 
       empty : linkEmpty emptyLink ≡ true
       empty = unfold linkEmpty zeros and in refl
@@ -82,7 +96,8 @@ module _ (n t own : ℕ) where
 
   idle-certified : certified (idleBase n t own) ≡ own ∷ []
   unfolding certified idleBase
-  idle-certified = ap (λ (l : List ℕ). own ∷ l) (announced-none (linkCount (idleBase n t own)) (linkAt (idleBase n t own)) (λ i h. idle-silent i (omega (arith, link-room (idleBase n t own)))))
+  idle-certified = ap (λ (l : List ℕ). own ∷ l) (announced-none (linkCount (idleBase n t own)) (linkAt (idleBase n t own))
+      (λ i h. idle-silent i (omega (arith, link-room (idleBase n t own)))))
 
   pub idle-sound : sound (idleBase n t own) ≡ true
   idle-sound = parts-sound (record {

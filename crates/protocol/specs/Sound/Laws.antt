@@ -7,12 +7,12 @@ use mathlib.Core.Bool.{true, false, not}
 use mathlib.Core.List.{List}
 use native.Mathlib.Decide.{decLt}
 use native.Mathlib.Omega.{arith}
-use borrow.Author.Tests.{leb-true, le-leb, eqb-true, eqb-false, eq-eqb, ne-eqb, ltb-false, le-ltb, lt-ltb, not-false}
+use borrow.Author.Tests.{leb-true, le-leb, eqb-true, eq-eqb, ne-eqb, le-ltb, lt-ltb, not-false}
 use lib.Dec.{eqb}
 use lib.ListN.{take, drop}
 use Rattle.limits.specs.Limits.{mostLinks, listRoom, mostFaulty}
 use Rattle.limits.specs.Refusals.{NetSize}
-use Rattle.limits.specs.Refusals.Laws.{net-passes, net-passed}
+use Rattle.limits.specs.Refusals.Laws.{size-passes, size-passed, own-passes, own-passed}
 use Rattle.lists.specs.Choice.{and, or}
 use Rattle.lists.specs.Choice.Laws.{choose-yes, choose-no, and-true, and-both, or-true, passed, passes, first-none, first-passed}
 use Rattle.lists.specs.Lists.{nonzero, ascending, distinct, zeros}
@@ -23,7 +23,8 @@ use Rattle.protocol.specs.declared.Base.{Base}
 use Rattle.protocol.specs.Links.{verifiesOf, used}
 use Rattle.protocol.specs.Links.Laws.{count-used}
 use Rattle.protocol.specs.Record.{linkAt, certified}
-use Rattle.protocol.specs.Sound.{listSound, verifiesSound, heldSound, linkSound, linkEmpty, placeSound, linksSound, linksEmpty, idle, stopped, finalSound, idleSound, announcesSound, sound, settingRefusal, recordRefusal}
+use Rattle.protocol.specs.Sound.{listSound, verifiesSound, heldSound, linkSound, linkEmpty, placeSound, linksSound, linksEmpty}
+use Rattle.protocol.specs.Sound.{idle, stopped, finalSound, idleSound, announcesSound, sound, settingRefusal, recordRefusal}
 
 -- ---- a list of n identifiers
 pub record ListParts (n : ℕ) (l : List ℕ) : Type 0 where
@@ -61,7 +62,8 @@ link-parts n l e =
 
 pub parts-link : {n : ℕ} {l : Link} → LinkParts n l → linkSound n l ≡ true
 unfolding linkSound verifiesSound
-parts-link {n} {l} P = and-both (le-leb (used l) (n + 1) (P .room)) (and-both (and-both (P .above-zero) (and-both (P .apart) (P .behind))) (P .held))
+parts-link {n} {l} P =
+    and-both (le-leb (used l) (n + 1) (P .room)) (and-both (and-both (P .above-zero) (and-both (P .apart) (P .behind))) (P .held))
 
 -- what is held: nothing, and zeros, or a list of kind 3 or 4
 pub held-none : (n : ℕ) (l : Link) → heldSound n l ≡ true → l .held ≡ 0 → zeros (l .list) ≡ true
@@ -71,8 +73,13 @@ held-none n l e h = sym (choose-yes _ _ (eq-eqb (l .held) 0 h)) ∙ e
 pub held-list : (n : ℕ) (l : Link) → heldSound n l ≡ true → l .held ≢ 0 → ((l .held ≡ 3) ⊎ (l .held ≡ 4)) × ListParts n (l .list)
 unfolding heldSound
 held-list n l e h =
-    let p = and-true _ _ (sym (choose-no _ _ (ne-eqb (l .held) 0 h)) ∙ e) in
-    (elim (or-true (eqb (l .held) 3) (eqb (l .held) 4) (p .0)) [ inl q ↦ inl (eqb-true (l .held) 3 q) | inr q ↦ inr (eqb-true (l .held) 4 q) ], list-parts n (l .list) (p .1))
+    let p = and-true _ _ (sym (choose-no _ _ (ne-eqb (l .held) 0 h)) ∙ e) in (
+      elim (or-true (eqb (l .held) 3) (eqb (l .held) 4) (p .0)) [
+        | inl q ↦ inl (eqb-true (l .held) 3 q)
+        | inr q ↦ inr (eqb-true (l .held) 4 q)
+      ],
+      list-parts n (l .list) (p .1),
+    )
 
 -- ---- a link that holds nothing
 pub record EmptyParts (l : Link) : Type 0 where
@@ -89,7 +96,13 @@ empty-parts l e =
     let q = and-true _ _ (p .1) in
     let r = and-true _ _ (q .1) in
     let s = and-true _ _ (r .1) in
-    record { announce = eqb-true (l .announce) 0 (p .0); count = eqb-true (l .«verify_count») 0 (q .0); verifies = r .0; held = eqb-true (l .held) 0 (s .0); list = s .1 }
+    record {
+      announce = eqb-true (l .announce) 0 (p .0);
+      count = eqb-true (l .«verify_count») 0 (q .0);
+      verifies = r .0;
+      held = eqb-true (l .held) 0 (s .0);
+      list = s .1;
+    }
 
 -- ---- a place of the array
 pub place-used : (n i : ℕ) (l : Link) → i < n - 1 → placeSound n i l ≡ linkSound n l
@@ -124,7 +137,14 @@ sound-parts b e =
     let r = and-true _ _ (q .1) in
     let s = and-true _ _ (r .1) in
     let u = and-true _ _ (s .1) in
-    record { state = leb-true (b .state) 3 (p .0); sent = leb-true (b .sent) 1 (q .0); place = all-at mostLinks (λ i. placeSound (b .n) i (linkAt b i)) (r .0); apart = s .0; final = u .0; idle = u .1 }
+    record {
+      state = leb-true (b .state) 3 (p .0);
+      sent = leb-true (b .sent) 1 (q .0);
+      place = all-at mostLinks (λ i. placeSound (b .n) i (linkAt b i)) (r .0);
+      apart = s .0;
+      final = u .0;
+      idle = u .1;
+    }
 
 pub parts-sound : {b : Base} → SoundParts b → sound b ≡ true
 unfolding sound linksSound announcesSound
@@ -150,7 +170,8 @@ idle-unsent b e h = eqb-true (b .sent) 0 (and-true _ _ (sym (choose-yes _ _ h) �
 
 pub idle-place : (b : Base) → idleSound b ≡ true → idle b ≡ true → (i : ℕ) → i < mostLinks → EmptyParts (linkAt b i)
 unfolding idleSound linksEmpty
-idle-place b e h i l = empty-parts (linkAt b i) (all-at mostLinks (λ j. linkEmpty (linkAt b j)) (and-true _ _ (sym (choose-yes _ _ h) ∙ e) .1) i l)
+idle-place b e h i l =
+    empty-parts (linkAt b i) (all-at mostLinks (λ j. linkEmpty (linkAt b j)) (and-true _ _ (sym (choose-yes _ _ h) ∙ e) .1) i l)
 
 -- ---- a record that is not turned down
 pub record Admitted (b : Base) : Type 0 where
@@ -159,20 +180,16 @@ pub record Admitted (b : Base) : Type 0 where
   pub own : 1 ≤ b .own
   pub sound : sound b ≡ true
 
-above-zero : (x : ℕ) → x ≢ 0 → 1 ≤ x
-above-zero x h = omega (arith, h)
-
 pub setting-passed : (n t own : ℕ) → settingRefusal n t own ≡ 0 → NetSize n × (t ≤ mostFaulty n) × (1 ≤ own)
 unfolding settingRefusal
 setting-passed n t own e =
     let p = first-passed _ _ e in
-    let p2 = passed _ 1 _ (p .1) in
-    let p3 = passed _ 2 _ (p2 .1) in
-    (net-passed n (p .0), ltb-false (mostFaulty n) t (p2 .0), above-zero own (eqb-false own 0 (p3 .0)))
+    let size = size-passed n t (p .0) in
+    (size .0, size .1, own-passed own (p .1))
 
 pub setting-passes : {n t own : ℕ} → NetSize n → t ≤ mostFaulty n → 1 ≤ own → settingRefusal n t own ≡ 0
 unfolding settingRefusal
-setting-passes {n} {t} {own} N few some = first-none _ (net-passes N) ∙ passes 2 (le-ltb (mostFaulty n) t few) (passes 3 (ne-eqb own 0 (λ e. omega arith)) refl)
+setting-passes N few some = first-none _ (size-passes N few) ∙ own-passes some
 
 pub record-passed : (b : Base) → recordRefusal b ≡ 0 → Admitted b
 unfolding recordRefusal
@@ -194,4 +211,5 @@ count-room b e i h =
 pub link-sound : (b : Base) → recordRefusal b ≡ 0 → (i : ℕ) → i < b .n - 1 → LinkParts (b .n) (linkAt b i)
 link-sound b e i h =
     let A = record-passed b e in
-    link-parts (b .n) (linkAt b i) (sym (place-used (b .n) i (linkAt b i) h) ∙ sound-parts b (A .sound) .place i (omega (arith, A .net .most)))
+    link-parts (b .n) (linkAt b i)
+    (sym (place-used (b .n) i (linkAt b i) h) ∙ sound-parts b (A .sound) .place i (omega (arith, A .net .most)))

@@ -1,4 +1,5 @@
--- A sound record that runs stays one while a message is taken in: the changed link stays sound, no other changes, and the certified identifiers stay different.
+-- A sound record that runs stays one while a message is taken in: the changed link stays
+-- sound, no other changes, and the certified identifiers stay different.
 use Prim.Native.Nat.{ℕ, _-_, _≤_, _<_}
 use mathlib.Core.Path.{_≡_, refl, sym, ap, _∙_, subst, subst₂}
 use mathlib.Core.Logic.{inl, inr}
@@ -20,11 +21,13 @@ use Rattle.protocol.specs.Record.{linkAt, linkCount, certified}
 use Rattle.protocol.specs.Record.Laws.{link-count}
 use Rattle.protocol.specs.Record.Memory.{Sized}
 use Rattle.protocol.specs.Sound.{placeSound, idle, stopped, finalSound, idleSound, sound, recordRefusal}
-use Rattle.protocol.specs.Sound.Laws.{LinkParts, link-parts, parts-link, place-used, sound-parts, parts-sound, final-running, record-passed, record-passes}
+use Rattle.protocol.specs.Sound.Laws.{LinkParts, link-parts, parts-link, place-used, sound-parts}
+use Rattle.protocol.specs.Sound.Laws.{parts-sound, final-running, record-passed, record-passes}
 use Rattle.protocol.specs.Sound.Changes.{not-full, announce-parts, verify-parts, vector-parts}
 use Rattle.protocol.specs.Links.Laws.{count-used}
 use Rattle.protocol.specs.Steps.{withLink, withSent, withState}
-use Rattle.protocol.specs.Steps.Cases.{Takes, takesAnnounce, takesVerify, takesCorrect, takesAndVotes, takesVerifyFinal, correct-list, verify-list, begun}
+use Rattle.protocol.specs.Steps.Cases.{Takes, takesAnnounce, takesVerify, takesCorrect, takesAndVotes}
+use Rattle.protocol.specs.Steps.Cases.{takesVerifyFinal, correct-list, verify-list, begun}
 use Rattle.protocol.specs.Steps.Certified.{takes-adds, adds-apart}
 use Rattle.protocol.specs.Steps.Decided.{valid-roster, roster-padded}
 use Rattle.protocol.specs.Steps.Laws.{SameSetting, takes-rest, changed, takes-each}
@@ -70,18 +73,24 @@ unfolding finalSound stopped
 running-final b e h = choose-no _ _ (lt-leb 2 (b .state) (omega (arith, e))) ∙ h
 
 pub runs-admitted : {b : Base} → Runs b → recordRefusal b ≡ 0
-runs-admitted {b} R = standing-admitted (R .standing) (omega (arith, R .state)) (omega (arith, R .state)) (running-final b (R .state) (R .final))
+runs-admitted {b} R =
+    standing-admitted (R .standing) (omega (arith, R .state)) (omega (arith, R .state)) (running-final b (R .state) (R .final))
 
 pub admitted-runs : (b : Base) → recordRefusal b ≡ 0 → b .state ≡ 1 → Runs b
 unfolding stopped
-admitted-runs b e on = record { standing = admitted-standing b e; state = on; final = admitted-final b e (lt-leb 2 (b .state) (omega (arith, on))) }
+admitted-runs b e on =
+    record { standing = admitted-standing b e; state = on; final = admitted-final b e (lt-leb 2 (b .state) (omega (arith, on))) }
 
 begun-standing : (b : Base) → Standing b → Standing (begun b)
 unfolding withState linkAt linkCount certified
 begun-standing b S = record { net = S .net; few = S .few; own = S .own; sent = S .sent; place = S .place; apart = S .apart }
 
 pub begun-runs : (b : Base) → recordRefusal b ≡ 0 → idle b ≡ true → Runs (begun b)
-begun-runs b e off = record { standing = begun-standing b (admitted-standing b e); state = unfold withState in refl; final = unfold withState in admitted-final b e (idle-not-stopped b off) }
+begun-runs b e off = record {
+  standing = begun-standing b (admitted-standing b e);
+  state = unfold withState in refl;
+  final = unfold withState in admitted-final b e (idle-not-stopped b off);
+}
 
 -- ---- a message is taken in
 module _ {b : Base} (R : Runs b) (S : Sized b) {i : ℕ} (below : i < b .n - 1) where
@@ -118,7 +127,8 @@ module _ {b : Base} (R : Runs b) (S : Sized b) {i : ℕ} (below : i < b .n - 1) 
     own = omega (arith, same .own, R .standing .own);
     sent = takes-sent T;
     place = subst (λ (n : ℕ). (j : ℕ) → j < mostLinks → placeSound n j (linkAt c j) ≡ true) (sym (same .n)) places;
-    apart = adds-apart (same .own) (takes-adds T (omega (arith, below, link-count b (R .standing .net))) fits (w .above-zero)) (R .standing .apart);
+    apart = adds-apart (same .own) (takes-adds T (omega (arith, below, link-count b (R .standing .net))) fits (w .above-zero))
+        (R .standing .apart);
   }
     where
       same : SameSetting b c
@@ -128,7 +138,9 @@ module _ {b : Base} (R : Runs b) (S : Sized b) {i : ℕ} (below : i < b .n - 1) 
       fits = omega (arith, inside, S .links)
 
       places : (j : ℕ) → j < mostLinks → placeSound (b .n) j (linkAt c j) ≡ true
-      places = takes-each (λ (j : ℕ) (l : Link). placeSound (b .n) j l ≡ true) mostLinks T fits (place-used (b .n) i (changed T) below ∙ parts-link (changed-sound T w)) (R .standing .place)
+      places = takes-each (λ (j : ℕ) (l : Link). placeSound (b .n) j l ≡ true) mostLinks T fits
+          (place-used (b .n) i (changed T) below ∙ parts-link (changed-sound T w)) (R .standing .place)
 
   pub takes-runs : {m : Message} {c : Base} {said : List Message} → Takes b i m c said → Valid (b .n) m → Runs c
-  takes-runs T w = record { standing = takes-standing T w; state = takes-rest T .state ∙ R .state; final = ap zeros (takes-rest T .final) ∙ R .final }
+  takes-runs T w =
+      record { standing = takes-standing T w; state = takes-rest T .state ∙ R .state; final = ap zeros (takes-rest T .final) ∙ R .final }

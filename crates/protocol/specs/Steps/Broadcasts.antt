@@ -1,5 +1,5 @@
--- Every message that a call broadcasts is valid for the base's net, so that it reads back as itself. A base broadcasts its own identifier, an identifier or
--- a list of the valid message that it took in, or the certified identifiers in order.
+-- Every message that a call broadcasts is valid for the base's net, so that it reads back as itself. A base broadcasts its own identifier,
+-- an identifier or a list of the valid message that it took in, or the certified identifiers in order.
 use Prim.Native.Nat.{ℕ, zero, suc, _-_, _^_, _≤_, _<_}
 use mathlib.Core.Path.{_≡_, refl, sym, ap, subst}
 use mathlib.Core.Bool.{not}
@@ -22,8 +22,11 @@ use Rattle.protocol.specs.Record.Memory.{Sized, Words}
 use Rattle.protocol.specs.Sound.{recordRefusal}
 use Rattle.protocol.specs.Sound.Laws.{record-passed}
 use Rattle.protocol.specs.Sound.Running.{Runs, admitted-runs, begun-runs, takes-runs}
-use Rattle.protocol.specs.Steps.{Done, refuses, discards, accepts, withState, stops, onMessage, begins, startStep, start, arrivalStep, arrival}
-use Rattle.protocol.specs.Steps.Cases.{Takes, takesAnnounce, takesVerify, takesCorrect, takesAndVotes, takesVerifyFinal, Decides, prime, secondary, Ends, discarding, runningOn, stopping, message-ends, begun, afterStart, start-step-cases, arrival-step-cases}
+use Rattle.protocol.specs.Steps.{Done, refuses, discards, accepts, withState, stops}
+use Rattle.protocol.specs.Steps.{onMessage, begins, startStep, start, arrivalStep, arrival}
+use Rattle.protocol.specs.Steps.Cases.{Takes, takesAnnounce, takesVerify, takesCorrect, takesAndVotes, takesVerifyFinal}
+use Rattle.protocol.specs.Steps.Cases.{Decides, prime, secondary, Ends, discarding, runningOn}
+use Rattle.protocol.specs.Steps.Cases.{stopping, message-ends, begun, afterStart, start-step-cases, arrival-step-cases}
 use Rattle.protocol.specs.Steps.Refusals.{Heard, arrival-heard, start-cases, arrival-cases}
 use Rattle.protocol.specs.Steps.Decided.{Roster, decides-roster}
 use Rattle.protocol.specs.Steps.Laws.{takes-rest}
@@ -46,7 +49,12 @@ all-valid-at n (m ∷ says) (suc k) none p h = all-valid-at n says k none (p .1)
 -- ---- one identifier, one list
 own-valid : (n g : ℕ) → 1 ≤ g → g < 2 ^ 32 → Valid n (announce g)
 unfolding idsOf kindOf expected holdsOne or choose nonzero ascending
-own-valid n g some word = record { count = refl; above-zero = and-both (ap not (ne-eqb g 0 (λ e. omega arith))) refl; ascends = refl; words = below-cons (2 ^ 32) g [] word (λ i. omega arith) }
+own-valid n g some word = record {
+  count = refl;
+  above-zero = and-both (ap not (ne-eqb g 0 (λ e. omega arith))) refl;
+  ascends = refl;
+  words = below-cons (2 ^ 32) g [] word (λ i. omega arith);
+}
 
 verify-valid : (n g : ℕ) → Valid n (announce g) → Valid n (verify g)
 unfolding idsOf kindOf expected holdsOne or choose
@@ -70,10 +78,13 @@ takes-valid n (takesVerifyFinal v o) w = tt
 
 certified-words : (c : Base) → Words c → Below (2 ^ 32) (certified c)
 unfolding certified
-certified-words c W = below-cons (2 ^ 32) (c .own) (announced (linkCount c) (linkAt c)) (W .own) (announced-ind (λ (k : ℕ) (l : List ℕ). k ≤ mostLinks → Below (2 ^ 32) l) (linkAt c) (λ _ i. omega arith)
-    (λ k e p h. below-cons (2 ^ 32) (linkAt c k .announce) (announced k (linkAt c)) (W .announced k (omega arith)) (p (omega arith))) (λ k e p h. p (omega arith)) (linkCount c) (link-room c))
+certified-words c W = below-cons (2 ^ 32) (c .own) (announced (linkCount c) (linkAt c)) (W .own) (announced-ind
+    (λ (k : ℕ) (l : List ℕ). k ≤ mostLinks → Below (2 ^ 32) l) (linkAt c) (λ _ i. omega arith)
+    (λ k e p h. below-cons (2 ^ 32) (linkAt c k .announce) (announced k (linkAt c)) (W .announced k (omega arith)) (p (omega arith)))
+    (λ k e p h. p (omega arith)) (linkCount c) (link-room c))
 
-decides-valid : {c : Base} {m : Message} {state : ℕ} {v : List ℕ} → Runs c → Words c → Valid (c .n) m → Decides c m state v → Valid (c .n) (correctFinal v)
+decides-valid : {c : Base} {m : Message} {state : ℕ} {v : List ℕ} → Runs c → Words c → Valid (c .n) m → Decides c m state v
+    → Valid (c .n) (correctFinal v)
 decides-valid {c} {m} {v = v} R W w D = roster-valid (c .n) v (decides-roster (R .standing .own) (R .standing .apart) w D) (words D)
   where
     words : {state : ℕ} {v : List ℕ} → Decides c m state v → Below (2 ^ 32) v
@@ -103,7 +114,8 @@ module _ {b : Base} (R : Runs b) (S : Sized b) (W : Words b) (i : ℕ) (below : 
       same = takes-rest T .setting .n
 
       final : Valid (b .n) (correctFinal v)
-      final = subst (λ (n : ℕ). Valid n (correctFinal v)) same (decides-valid (takes-runs R S below T w) (taken-words T) (subst (λ (n : ℕ). Valid n m) (sym same) w) D)
+      final = subst (λ (n : ℕ). Valid n (correctFinal v)) same
+          (decides-valid (takes-runs R S below T w) (taken-words T) (subst (λ (n : ℕ). Valid n m) (sym same) w) D)
 
   message-spoken : Spoken b (onMessage b i m)
   message-spoken = ends-spoken (message-ends b i m)
@@ -117,8 +129,11 @@ unfolding refuses
 refuses-spoken b r W = record { valid = tt; words = W }
 
 -- the two messages of a start, and those that follow
-start-valid : (b : Base) → recordRefusal b ≡ 0 → Words b → (says : List Message) → AllValid (b .n) says → AllValid (b .n) (announce (b .own) ∷ (verify (b .own) ∷ says))
-start-valid b e W says p = let own = own-valid (b .n) (b .own) (record-passed b e .own) (W .own) in (own, (verify-valid (b .n) (b .own) own, p))
+start-valid : (b : Base) → recordRefusal b ≡ 0 → Words b → (says : List Message) → AllValid (b .n) says
+    → AllValid (b .n) (announce (b .own) ∷ (verify (b .own) ∷ says))
+start-valid b e W says p =
+    let own = own-valid (b .n) (b .own) (record-passed b e .own) (W .own) in
+    (own, (verify-valid (b .n) (b .own) own, p))
 
 pub start-step-spoken : (b : Base) → Words b → recordRefusal b ≡ 0 → Spoken b (startStep b)
 start-step-spoken b W e = start-step-cases (Spoken b) b (λ _. begins-spoken) (λ _. discards-spoken b W)
@@ -132,12 +147,15 @@ after-spoken b d e W P = record { valid = start-valid b e W (d .says) (P .valid)
 
 pub arrival-step-spoken : (b : Base) (i : ℕ) (m : Message) → Sized b → Words b → Heard b i m → Spoken b (arrivalStep b i m)
 arrival-step-spoken b i m S W H = arrival-step-cases (Spoken b) b i m (λ _. discards-spoken b W)
-    (λ off. after-spoken b (onMessage (begun b) i m) (H .refusal) W (message-spoken (begun-runs b (H .refusal) off) (begun-sized b S) (begun-words b W) i (unfold withState in H .place) m (unfold withState in H .valid)))
+    (λ off. after-spoken b (onMessage (begun b) i m) (H .refusal) W (message-spoken (begun-runs b (H .refusal) off) (begun-sized b S)
+    (begun-words b W) i (unfold withState in H .place) m (unfold withState in H .valid)))
     (λ on. message-spoken (admitted-runs b (H .refusal) on) S W i (H .place) m (H .valid))
 
 -- ---- the calls
 pub start-spoken : (b : Base) (room : ℕ) → Words b → Spoken b (start b room)
 start-spoken b room W = start-cases (Spoken b) b room (λ r _. refuses-spoken b r W) (start-step-spoken b W)
 
-pub arrival-spoken : (b : Base) (link : ℕ) (burst : List ℕ) (room : ℕ) → Sized b → Words b → Below 256 burst → Spoken b (arrival b link burst room)
-arrival-spoken b link burst room S W bytes = arrival-cases (Spoken b) b link burst room (λ r _. refuses-spoken b r W) (λ e. arrival-step-spoken b _ _ S W (arrival-heard b link burst room bytes e))
+pub arrival-spoken : (b : Base) (link : ℕ) (burst : List ℕ) (room : ℕ) → Sized b → Words b → Below 256 burst
+    → Spoken b (arrival b link burst room)
+arrival-spoken b link burst room S W bytes = arrival-cases (Spoken b) b link burst room (λ r _. refuses-spoken b r W)
+    (λ e. arrival-step-spoken b _ _ S W (arrival-heard b link burst room bytes e))

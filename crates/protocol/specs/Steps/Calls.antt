@@ -1,5 +1,5 @@
--- The calls on one base over its life, whatever they are and however they end: the record keeps its sizes, its n, t and own identifier, and stays sound.
--- Once it has stopped it never changes again.
+-- The calls on one base over its life, whatever they are and however they end: the record keeps its
+-- sizes, its n, t and own identifier, and stays sound. Once it has stopped it never changes again.
 use Prim.Native.Nat.{ℕ}
 use mathlib.Core.Path.{_≡_, refl, ap, ap₂, _∙_}
 use mathlib.Core.Bool.{true}
@@ -35,9 +35,9 @@ AllBytes [] = Unit {0}
 AllBytes (c ∷ calls) = CallBytes c × AllBytes calls
 
 -- the record after the calls, each on the record that the one before left
-unfoldable pub after : Base → List Call → Base
-after b [] = b
-after b (c ∷ calls) = after (called b c .base) calls
+unfoldable pub afterCalls : Base → List Call → Base
+afterCalls b [] = b
+afterCalls b (c ∷ calls) = afterCalls (called b c .base) calls
 
 -- all that is broadcast
 unfoldable pub life : Base → List Call → List Message
@@ -60,25 +60,28 @@ kept-held K = record { setting = K .setting; sized = K .sized; refusal = λ _. K
 pub call-held : (b : Base) (c : Call) → Sized b → CallBytes c → Held b (called b c)
 unfolding called
 call-held b (starts room) S bytes = start-cases (Held b) b room (λ r _. refuses-held b r S) (λ e. kept-held (start-step-kept b S e))
-call-held b (arrives link burst room) S bytes = arrival-cases (Held b) b link burst room (λ r _. refuses-held b r S) (λ e. kept-held (arrival-step-kept b _ _ S (arrival-heard b link burst room bytes e)))
+call-held b (arrives link burst room) S bytes = arrival-cases (Held b) b link burst room (λ r _. refuses-held b r S)
+    (λ e. kept-held (arrival-step-kept b _ _ S (arrival-heard b link burst room bytes e)))
 
-pub after-sized : (b : Base) (calls : List Call) → Sized b → AllBytes calls → Sized (after b calls)
-unfolding after
-after-sized b [] S bytes = S
-after-sized b (c ∷ calls) S bytes = after-sized (called b c .base) calls (call-held b c S (bytes .0) .sized) (bytes .1)
+pub calls-sized : (b : Base) (calls : List Call) → Sized b → AllBytes calls → Sized (afterCalls b calls)
+unfolding afterCalls
+calls-sized b [] S bytes = S
+calls-sized b (c ∷ calls) S bytes = calls-sized (called b c .base) calls (call-held b c S (bytes .0) .sized) (bytes .1)
 
-pub after-setting : (b : Base) (calls : List Call) → Sized b → AllBytes calls → SameSetting b (after b calls)
-unfolding after
+pub after-setting : (b : Base) (calls : List Call) → Sized b → AllBytes calls → SameSetting b (afterCalls b calls)
+unfolding afterCalls
 after-setting b [] S bytes = same-setting b
 after-setting b (c ∷ calls) S bytes =
     let H = call-held b c S (bytes .0) in
     let A = after-setting (called b c .base) calls (H .sized) (bytes .1) in
     record { n = A .n ∙ H .setting .n; t = A .t ∙ H .setting .t; own = A .own ∙ H .setting .own }
 
-pub after-sound : (b : Base) (calls : List Call) → Sized b → AllBytes calls → recordRefusal b ≡ 0 → recordRefusal (after b calls) ≡ 0
-unfolding after
+pub after-sound : (b : Base) (calls : List Call) → Sized b → AllBytes calls → recordRefusal b ≡ 0 → recordRefusal (afterCalls b calls) ≡ 0
+unfolding afterCalls
 after-sound b [] S bytes e = e
-after-sound b (c ∷ calls) S bytes e = let H = call-held b c S (bytes .0) in after-sound (called b c .base) calls (H .sized) (bytes .1) (H .refusal e)
+after-sound b (c ∷ calls) S bytes e =
+    let H = call-held b c S (bytes .0) in
+    after-sound (called b c .base) calls (H .sized) (bytes .1) (H .refusal e)
 
 -- ---- a base that has stopped
 stopped-call : (b : Base) (c : Call) → stopped b ≡ true → Unchanged b (called b c)
@@ -86,13 +89,17 @@ unfolding called
 stopped-call b (starts room) e = stopped-start b room e
 stopped-call b (arrives link burst room) e = stopped-arrival b link burst room e
 
-pub stopped-for-ever : (b : Base) (calls : List Call) → stopped b ≡ true → (after b calls ≡ b) × (life b calls ≡ [])
-unfolding after life
+pub stopped-for-ever : (b : Base) (calls : List Call) → stopped b ≡ true → (afterCalls b calls ≡ b) × (life b calls ≡ [])
+unfolding afterCalls life
 stopped-for-ever b [] e = (refl, refl)
 stopped-for-ever b (c ∷ calls) e = go (stopped-for-ever b calls e)
   where
     same : Unchanged b (called b c)
     same = stopped-call b c e
 
-    go : (after b calls ≡ b) × (life b calls ≡ []) → (after (called b c .base) calls ≡ b) × (called b c .says ++ life (called b c .base) calls ≡ [])
-    go r = (ap (λ (x : Base). after x calls) (same .base) ∙ r .0, ap₂ _++_ (same .says) (ap (λ (x : Base). life x calls) (same .base) ∙ r .1))
+    go : (afterCalls b calls ≡ b) × (life b calls ≡ [])
+        → (afterCalls (called b c .base) calls ≡ b) × (called b c .says ++ life (called b c .base) calls ≡ [])
+    go r = (
+      ap (λ (x : Base). afterCalls x calls) (same .base) ∙ r .0,
+      ap₂ _++_ (same .says) (ap (λ (x : Base). life x calls) (same .base) ∙ r .1),
+    )

@@ -1,4 +1,5 @@
--- What taking a message in does to the certified identifiers: an Announce adds its identifier, and no other message changes them. So they stay different.
+-- What taking a message in does to the certified identifiers: an Announce adds its
+-- identifier, and no other message changes them. So they stay different.
 use Prim.Native.Nat.{ℕ, _-_, _≤_, _<_, min}
 use mathlib.Core.Path.{_≡_, refl, ap, ap₂, _∙_}
 use mathlib.Core.Bool.{true, false}
@@ -27,18 +28,23 @@ pub data Adds (b c : Base) : Message → Type 0 where
   addsNone : {m : Message} → announcedTo c ≡ announcedTo b → Adds b c m
 
 -- where the link that the message came on announces what it did before
-pub announced-kept : {b : Base} {i : ℕ} {m : Message} {c : Base} {said : List Message} (T : Takes b i m c said) → i < length (b .links) → changed T .announce ≡ linkAt b i .announce → announcedTo c ≡ announcedTo b
+pub announced-kept : {b : Base} {i : ℕ} {m : Message} {c : Base} {said : List Message} (T : Takes b i m c said) → i < length (b .links)
+    → changed T .announce ≡ linkAt b i .announce → announcedTo c ≡ announcedTo b
 unfolding linkCount
 announced-kept {b} {c = c} T h e =
     ap (λ (n : ℕ). announced (min (n - 1) mostLinks) (linkAt c)) (takes-rest T .setting .n)
-    ∙ announced-same (linkCount b) (linkAt b) (linkAt c) (takes-each (λ (j : ℕ) (l : Link). l .announce ≡ linkAt b j .announce) (linkCount b) T h e (λ j _. refl))
+    ∙ announced-same (linkCount b) (linkAt b) (linkAt c)
+    (takes-each (λ (j : ℕ) (l : Link). l .announce ≡ linkAt b j .announce) (linkCount b) T h e (λ j _. refl))
 
 -- where it announces one that it did not
-pub announced-added : (b : Base) (i g : ℕ) → i < linkCount b → i < length (b .links) → 1 ≤ g → announces (linkAt b i) ≡ false → Inserted g (announcedTo b) (announcedTo (withLink b i (withAnnounce (linkAt b i) g)))
+pub announced-added : (b : Base) (i g : ℕ) → i < linkCount b → i < length (b .links) → 1 ≤ g → announces (linkAt b i) ≡ false
+    → Inserted g (announcedTo b) (announcedTo (withLink b i (withAnnounce (linkAt b i) g)))
 unfolding withAnnounce withLink linkCount
-announced-added b i g below h some silent = announced-more (linkCount b) (linkAt b) (linkAt (withLink b i (withAnnounce (linkAt b i) g))) i g below silent some (ap (λ (l : Link). l .announce) (stored-same b i _ h)) (stored-other b i _)
+announced-added b i g below h some silent = announced-more (linkCount b) (linkAt b) (linkAt (withLink b i (withAnnounce (linkAt b i) g))) i
+    g below silent some (ap (λ (l : Link). l .announce) (stored-same b i _ h)) (stored-other b i _)
 
-pub takes-adds : {b : Base} {i : ℕ} {m : Message} {c : Base} {said : List Message} → Takes b i m c said → i < linkCount b → i < length (b .links) → nonzero (idsOf m) ≡ true → Adds b c m
+pub takes-adds : {b : Base} {i : ℕ} {m : Message} {c : Base} {said : List Message} → Takes b i m c said → i < linkCount b
+    → i < length (b .links) → nonzero (idsOf m) ≡ true → Adds b c m
 unfolding changed withVerify withVector idsOf
 takes-adds {b} {i} (takesAnnounce g p q r) below h some = addsOne q (announced-added b i g below h (nonzero-one g some) p)
 takes-adds (takesVerify g p q) below h some = addsNone (announced-kept (takesVerify g p q) h refl)

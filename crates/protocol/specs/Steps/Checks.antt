@@ -20,7 +20,11 @@ unfolding primeHolds
 prime-parts b e =
     let p = and-true _ _ e in
     let q = and-true _ _ (p .1) in
-    record { count = eqb-true (length (certified b)) (b .n) (p .0); sum = leb-true (b .n * b .n) (tallySum b + 2 * b .t) (q .0); few = leb-true (suspects b) (b .t) (q .1) }
+    record {
+      count = eqb-true (length (certified b)) (b .n) (p .0);
+      sum = leb-true (b .n * b .n) (tallySum b + 2 * b .t) (q .0);
+      few = leb-true (suspects b) (b .t) (q .1);
+    }
 
 pub record SecondaryParts (b : Base) (v : List ℕ) : Type 0 where
   pub tally : b .t + 1 ≤ listTally b v
@@ -28,7 +32,9 @@ pub record SecondaryParts (b : Base) (v : List ℕ) : Type 0 where
 
 pub secondary-parts : (b : Base) (v : List ℕ) → secondaryHolds b v ≡ true → SecondaryParts b v
 unfolding secondaryHolds
-secondary-parts b v e = let p = and-true _ _ e in record { tally = leb-true (b .t + 1) (listTally b v) (p .0); correct = leb-true 2 (correctCount b v) (p .1) }
+secondary-parts b v e =
+    let p = and-true _ _ e in
+    record { tally = leb-true (b .t + 1) (listTally b v) (p .0); correct = leb-true 2 (correctCount b v) (p .1) }
 
 pub record VoteParts (b : Base) (v : List ℕ) : Type 0 where
   pub unsent : b .sent ≡ 0

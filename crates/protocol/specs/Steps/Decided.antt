@@ -1,5 +1,5 @@
--- What becomes final is a roster: n identifiers, above zero and strictly ascending, as kinds 3 and 4 demand. A prime sorts n different certified
--- identifiers; a secondary takes the list of a valid message.
+-- What becomes final is a roster: n identifiers, above zero and strictly ascending, as kinds 3 and 4 demand. A prime sorts n different
+-- certified identifiers; a secondary takes the list of a valid message.
 use Prim.Native.Nat.{ℕ, _≤_}
 use mathlib.Core.Path.{_≡_, ap, _∙_}
 use mathlib.Core.Bool.{true}
@@ -26,7 +26,8 @@ pub record Roster (n : ℕ) (v : List ℕ) : Type 0 where
 pub valid-roster : {n : ℕ} {m : Message} → HoldsList m → Valid n m → Roster n (idsOf m)
 valid-roster {n} H w = record { count = w .count ∙ H n; above-zero = w .above-zero; ascends = w .ascends }
 
-pub decides-roster : {c : Base} {m : Message} {state : ℕ} {v : List ℕ} → 1 ≤ c .own → distinct (certified c) ≡ true → Valid (c .n) m → Decides c m state v → Roster (c .n) v
+pub decides-roster : {c : Base} {m : Message} {state : ℕ} {v : List ℕ} → 1 ≤ c .own → distinct (certified c) ≡ true → Valid (c .n) m
+    → Decides c m state v → Roster (c .n) v
 decides-roster {c} some apart w (prime H e) = record {
   count = length-sort (certified c) ∙ prime-parts c e .count;
   above-zero = nonzero-sort (certified c) ∙ nonzero-certified c some;

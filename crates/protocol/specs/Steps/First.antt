@@ -1,6 +1,6 @@
--- The first message of a base that holds nothing from any link neither stops it nor makes it vote. Two Correct-Final would be needed for a vote and for a
--- secondary. A prime needs n certified identifiers whose tallies sum to n² − 2t: after one Announce no link holds a Verify, so that the sum is n at
--- most, and after any other message only the own identifier is certified.
+-- The first message of a base that holds nothing from any link neither stops it nor makes it vote. Two Correct-Final would be needed for a
+-- vote and for a secondary. A prime needs n certified identifiers whose tallies sum to n² − 2t: after one Announce no link holds a Verify,
+-- so that the sum is n at most, and after any other message only the own identifier is certified.
 use Prim.Native.Nat.{ℕ, _-_, _≤_, _<_}
 use mathlib.Core.Path.{subst, subst₂, sym, _≡_, refl, ap, _∙_}
 use mathlib.Core.Logic.{_≢_}
@@ -26,8 +26,11 @@ use Rattle.protocol.specs.Record.Laws.{link-room}
 use Rattle.protocol.specs.Record.Announced.{announced-none}
 use Rattle.protocol.specs.Sound.{idle, recordRefusal}
 use Rattle.protocol.specs.Sound.Laws.{EmptyParts, idle-place, sound-parts, record-passed}
-use Rattle.protocol.specs.Steps.{Done, discards, accepts, withLink, withState, withAnnounce, withVerify, withVector, primeHolds, votes, onMessage, encodeAll}
-use Rattle.protocol.specs.Steps.Cases.{holding, Takes, takesAnnounce, takesVerify, takesCorrect, takesAndVotes, takesVerifyFinal, Decides, prime, secondary, Ends, discarding, runningOn, stopping, message-ends, begun}
+use Rattle.protocol.specs.Steps.{Done, discards, accepts, withLink, withState, withAnnounce}
+use Rattle.protocol.specs.Steps.{withVerify, withVector, primeHolds, votes, onMessage, encodeAll}
+use Rattle.protocol.specs.Steps.Cases.{holdingVector, Takes, takesAnnounce, takesVerify, takesCorrect, takesAndVotes}
+use Rattle.protocol.specs.Steps.Cases.{takesVerifyFinal, Decides, prime, secondary, Ends, discarding}
+use Rattle.protocol.specs.Steps.Cases.{runningOn, stopping, message-ends, begun}
 use Rattle.protocol.specs.Steps.Checks.{prime-parts, secondary-parts, vote-parts}
 use Rattle.protocol.specs.Steps.Laws.{SameSetting, stored-other, takes-rest, takes-other, changed, takes-each}
 use Rattle.protocol.specs.Steps.Sizes.{Brief, bytes-one}
@@ -42,9 +45,14 @@ sum-over-most (x ∷ l) f h = omega (arith, h x, sum-over-most l f h)
 module _ (c : Base) (N : NetSize (c .n)) where
   tally-most : ((j : ℕ) → j < mostLinks → (g : ℕ) → holdsVerify (linkAt c j) g ≡ false) → (g : ℕ) → tally c g ≤ 1
   unfolding tally links bit
-  tally-most none g = omega (arith, bit-most (member g (certified c)), sum-none (linkCount c) (λ j. bit (holdsVerify (linkAt c j) g)) (λ j h. ap bit (none j (omega (arith, link-room c)) g)))
+  tally-most none g = omega (
+    arith,
+    bit-most (member g (certified c)),
+    sum-none (linkCount c) (λ j. bit (holdsVerify (linkAt c j) g)) (λ j h. ap bit (none j (omega (arith, link-room c)) g)),
+  )
 
-  unverified-not-prime : c .t ≤ mostFaulty (c .n) → ((j : ℕ) → j < mostLinks → (g : ℕ) → holdsVerify (linkAt c j) g ≡ false) → primeHolds c ≡ true → ⊥
+  unverified-not-prime : c .t ≤ mostFaulty (c .n) → ((j : ℕ) → j < mostLinks → (g : ℕ) → holdsVerify (linkAt c j) g ≡ false)
+      → primeHolds c ≡ true → ⊥
   unfolding tallySum
   unverified-not-prime few none e =
       let P = prime-parts c e in
@@ -54,11 +62,16 @@ module _ (c : Base) (N : NetSize (c .n)) where
   -- where no link announces, only the own identifier is certified
   unannounced-not-prime : ((j : ℕ) → j < mostLinks → announces (linkAt c j) ≡ false) → primeHolds c ≡ true → ⊥
   unfolding certified
-  unannounced-not-prime none e = omega (arith, prime-parts c e .count, ap length (announced-none (linkCount c) (linkAt c) (λ j h. none j (omega (arith, link-room c)))), N .least)
+  unannounced-not-prime none e = omega (
+    arith,
+    prime-parts c e .count,
+    ap length (announced-none (linkCount c) (linkAt c) (λ j h. none j (omega (arith, link-room c)))),
+    N .least,
+  )
 
 -- ---- a base that holds nothing from any link
-abbrev pub Blank : Base → Type 0
-Blank c = (j : ℕ) → j < mostLinks → EmptyParts (linkAt c j)
+abbrev pub HoldsNothing : Base → Type 0
+HoldsNothing c = (j : ℕ) → j < mostLinks → EmptyParts (linkAt c j)
 
 -- it stays quiet: state and vote are as they were, and a Verify is all that it may broadcast
 pub record Quiet (c : Base) (d : Done) : Type 0 where
@@ -66,23 +79,31 @@ pub record Quiet (c : Base) (d : Done) : Type 0 where
   pub sent : d .base .sent ≡ c .sent
   pub brief : Brief 1 (frameBytes 1) d
 
-module _ (c : Base) (N : NetSize (c .n)) (few : c .t ≤ mostFaulty (c .n)) (blank : Blank c) (i : ℕ) (fits : i < length (c .links)) (here : i < mostLinks) where
+module _ (c : Base) (N : NetSize (c .n)) (few : c .t ≤ mostFaulty (c .n)) (blank : HoldsNothing c) (i : ℕ)
+    (fits : i < length (c .links)) (here : i < mostLinks) where
   -- another base that differs at the link at place i alone
   correct-most : (d : Base) (v : List ℕ) → ((j : ℕ) → j ≢ i → linkAt d j ≡ linkAt c j) → correctCount d v ≤ 1
   unfolding correctCount links
-  correct-most d v other = sum-lone (linkCount d) (λ j. bit (holdsCorrect (d .n) (linkAt d j) v)) i (bit-most (holdsCorrect (d .n) (linkAt d i) v))
-      (λ j h ne. ap bit (ap (λ (l : Link). holdsCorrect (d .n) l v) (other j ne) ∙ no-correct (d .n) (linkAt c j) v (blank j (omega (arith, link-room d)) .held)) ∙ (unfold bit in refl))
+  correct-most d v other =
+      sum-lone (linkCount d) (λ j. bit (holdsCorrect (d .n) (linkAt d j) v)) i (bit-most (holdsCorrect (d .n) (linkAt d i) v))
+      (λ j h ne. ap bit (ap (λ (l : Link). holdsCorrect (d .n) l v) (other j ne)
+      ∙ no-correct (d .n) (linkAt c j) v (blank j (omega (arith, link-room d)) .held)) ∙ (unfold bit in refl))
 
-  no-vote : (v : List ℕ) → votes (holding c i 3 v) v ≡ true → ⊥
-  no-vote v e = omega (arith, vote-parts (holding c i 3 v) v e .correct, correct-most (holding c i 3 v) v (stored-other c i _))
+  no-vote : (v : List ℕ) → votes (holdingVector c i 3 v) v ≡ true → ⊥
+  no-vote v e = omega (arith, vote-parts (holdingVector c i 3 v) v e .correct, correct-most (holdingVector c i 3 v) v (stored-other c i _))
 
-  silent-not-prime : {m : Message} {d : Base} {said : List Message} (T : Takes c i m d said) → changed T .announce ≡ 0 → primeHolds d ≡ true → ⊥
+  silent-not-prime : {m : Message} {d : Base} {said : List Message} (T : Takes c i m d said) → changed T .announce ≡ 0 → primeHolds d ≡ true
+      → ⊥
   silent-not-prime {d = d} T e = unannounced-not-prime d (subst NetSize (sym (takes-rest T .setting .n)) N)
-      (takes-each (λ (j : ℕ) (l : Link). announces l ≡ false) mostLinks T fits (no-announce (changed T) e) (λ j h. no-announce (linkAt c j) (blank j h .announce)))
+      (takes-each (λ (j : ℕ) (l : Link). announces l ≡ false) mostLinks T fits (no-announce (changed T) e)
+      (λ j h. no-announce (linkAt c j) (blank j h .announce)))
 
-  unheard-not-prime : {m : Message} {d : Base} {said : List Message} (T : Takes c i m d said) → changed T .«verify_count» ≡ 0 → primeHolds d ≡ true → ⊥
-  unheard-not-prime {d = d} T e = unverified-not-prime d (subst NetSize (sym (same .n)) N) (subst₂ (λ (t n : ℕ). t ≤ mostFaulty n) (sym (same .t)) (sym (same .n)) few)
-      (λ j h g. takes-each (λ (k : ℕ) (l : Link). holdsVerify l g ≡ false) mostLinks T fits (no-verify (changed T) g e) (λ k l. no-verify (linkAt c k) g (blank k l .count)) j h)
+  unheard-not-prime : {m : Message} {d : Base} {said : List Message} (T : Takes c i m d said) → changed T .«verify_count» ≡ 0
+      → primeHolds d ≡ true → ⊥
+  unheard-not-prime {d = d} T e =
+      unverified-not-prime d (subst NetSize (sym (same .n)) N) (subst₂ (λ (t n : ℕ). t ≤ mostFaulty n) (sym (same .t)) (sym (same .n)) few)
+      (λ j h g. takes-each (λ (k : ℕ) (l : Link). holdsVerify l g ≡ false) mostLinks T fits (no-verify (changed T) g e)
+      (λ k l. no-verify (linkAt c k) g (blank k l .count)) j h)
     where
       same : SameSetting c d
       same = takes-rest T .setting
@@ -97,11 +118,13 @@ module _ (c : Base) (N : NetSize (c .n)) (few : c .t ≤ mostFaulty (c .n)) (bla
 
   no-decision : {m : Message} {d : Base} {said : List Message} {state : ℕ} {v : List ℕ} → Takes c i m d said → Decides d m state v → ⊥
   no-decision T (prime H e) = no-prime T e
-  no-decision {m = m} {d = d} T (secondary H e) = omega (arith, secondary-parts d (idsOf m) e .correct, correct-most d (idsOf m) (takes-other T))
+  no-decision {m = m} {d = d} T (secondary H e) =
+      omega (arith, secondary-parts d (idsOf m) e .correct, correct-most d (idsOf m) (takes-other T))
 
   takes-quiet : {m : Message} {d : Base} {said : List Message} → Takes c i m d said → Quiet c (accepts d said)
   unfolding accepts withLink encodeAll idsOf
-  takes-quiet (takesAnnounce g p q r) = record { state = refl; sent = refl; brief = record { few = omega arith; small = omega (arith, bytes-one (verify g)) } }
+  takes-quiet (takesAnnounce g p q r) =
+      record { state = refl; sent = refl; brief = record { few = omega arith; small = omega (arith, bytes-one (verify g)) } }
   takes-quiet (takesVerify g p q) = record { state = refl; sent = refl; brief = record { few = omega arith; small = omega arith } }
   takes-quiet (takesCorrect v o p) = record { state = refl; sent = refl; brief = record { few = omega arith; small = omega arith } }
   takes-quiet (takesAndVotes v o p) = absurd (no-vote v p)
@@ -117,12 +140,14 @@ module _ (c : Base) (N : NetSize (c .n)) (few : c .t ≤ mostFaulty (c .n)) (bla
   first-message m = ends-quiet (message-ends c i m)
 
 -- ---- an idle base that was just started
-begun-blank : (b : Base) → recordRefusal b ≡ 0 → idle b ≡ true → Blank (begun b)
+begun-blank : (b : Base) → recordRefusal b ≡ 0 → idle b ≡ true → HoldsNothing (begun b)
 unfolding withState linkAt
 begun-blank b e off = idle-place b (sound-parts b (record-passed b e .sound) .idle) off
 
-pub idle-first : (b : Base) → Sized b → recordRefusal b ≡ 0 → idle b ≡ true → (i : ℕ) → i < b .n - 1 → (m : Message) → Quiet (begun b) (onMessage (begun b) i m)
+pub idle-first : (b : Base) → Sized b → recordRefusal b ≡ 0 → idle b ≡ true → (i : ℕ) → i < b .n - 1 → (m : Message)
+    → Quiet (begun b) (onMessage (begun b) i m)
 unfolding withState
 idle-first b S e off i h m =
     let A = record-passed b e in
-    first-message (begun b) (A .net) (A .few) (begun-blank b e off) i (omega (arith, S .links, A .net .most)) (omega (arith, A .net .most)) m
+    first-message (begun b) (A .net) (A .few) (begun-blank b e off) i (omega (arith, S .links, A .net .most))
+    (omega (arith, A .net .most)) m

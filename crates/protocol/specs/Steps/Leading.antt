@@ -1,5 +1,5 @@
--- "The leader is the largest identifier of the final list." (document 01, "The steps"): it is one of the list, and none is above it. Of an ascending list it
--- is the last; the final list of a sound record that has stopped is such a list.
+-- "The leader is the largest identifier of the final list." (document 01, "The steps"): it is one of the list, and none is above it. Of an
+-- ascending list it is the last; the final list of a sound record that has stopped is such a list.
 use Prim.Native.Nat.{ℕ, suc, _-_, _≤_, _<_}
 use mathlib.Core.Path.{_≡_, refl, sym, ap, _∙_}
 use mathlib.Core.Logic.{_⊎_, inl, inr}
@@ -24,7 +24,8 @@ use Rattle.protocol.specs.Steps.Decided.{Roster}
 
 leader-cons : (P : ℕ → Type 0) (x : ℕ) (l : List ℕ) → (x ≤ leaderOf l → P (leaderOf l)) → (leaderOf l ≤ x → P x) → P (leaderOf (x ∷ l))
 unfolding leaderOf
-leader-cons P x l tail head = choose-ind P (leb x (leaderOf l)) (λ e. tail (leb-true x (leaderOf l) e)) (λ e. head (less (leb-false x (leaderOf l) e)))
+leader-cons P x l tail head =
+    choose-ind P (leb x (leaderOf l)) (λ e. tail (leb-true x (leaderOf l) e)) (λ e. head (less (leb-false x (leaderOf l) e)))
   where
     less : leaderOf l < x → leaderOf l ≤ x
     less h = omega arith
@@ -37,7 +38,8 @@ leader-one x = leader-cons (λ (k : ℕ). k ≡ x) x [] (λ h. omega (arith, h, 
 
 pub leader-member : (x : ℕ) (l : List ℕ) → member (leaderOf (x ∷ l)) (x ∷ l) ≡ true
 leader-member x [] = ap (λ (k : ℕ). member k (x ∷ [])) (leader-one x) ∙ member-head x []
-leader-member x (y ∷ l) = leader-cons (λ (k : ℕ). member k (x ∷ (y ∷ l)) ≡ true) x (y ∷ l) (λ _. member-tail (leaderOf (y ∷ l)) x (y ∷ l) (leader-member y l)) (λ _. member-head x (y ∷ l))
+leader-member x (y ∷ l) = leader-cons (λ (k : ℕ). member k (x ∷ (y ∷ l)) ≡ true) x (y ∷ l)
+    (λ _. member-tail (leaderOf (y ∷ l)) x (y ∷ l) (leader-member y l)) (λ _. member-head x (y ∷ l))
 
 pub leader-most : (l : List ℕ) (x : ℕ) → member x l ≡ true → x ≤ leaderOf l
 leader-most [] x e = clash e (unfold member in refl)
@@ -57,12 +59,18 @@ leader-last (x ∷ (y ∷ l)) e = go (ascending-tail x (y ∷ l) e) (leader-last
         let e : length (x ∷ (y ∷ l)) - 1 ≡ suc (length (y ∷ l) - 1) = omega arith in
         ap (λ (k : ℕ). getD (x ∷ (y ∷ l)) k 0) e
 
-    go : (x < y) × (ascending (y ∷ l) ≡ true) → (ascending (y ∷ l) ≡ true → leaderOf (y ∷ l) ≡ getD (y ∷ l) (length (y ∷ l) - 1) 0) → leaderOf (x ∷ (y ∷ l)) ≡ getD (x ∷ (y ∷ l)) (length (x ∷ (y ∷ l)) - 1) 0
-    go p r = leader-cons (λ (k : ℕ). k ≡ getD (x ∷ (y ∷ l)) (length (x ∷ (y ∷ l)) - 1) 0) x (y ∷ l) (λ _. r (p .1) ∙ sym last) (λ h. absurd (omega (arith, h, p .0, leader-most (y ∷ l) y (member-head y l))))
+    go : (x < y) × (ascending (y ∷ l) ≡ true) → (ascending (y ∷ l) ≡ true → leaderOf (y ∷ l) ≡ getD (y ∷ l) (length (y ∷ l) - 1) 0)
+        → leaderOf (x ∷ (y ∷ l)) ≡ getD (x ∷ (y ∷ l)) (length (x ∷ (y ∷ l)) - 1) 0
+    go p r = leader-cons (λ (k : ℕ). k ≡ getD (x ∷ (y ∷ l)) (length (x ∷ (y ∷ l)) - 1) 0) x (y ∷ l) (λ _. r (p .1) ∙ sym last)
+        (λ h. absurd (omega (arith, h, p .0, leader-most (y ∷ l) y (member-head y l))))
 
 pub final-roster : (b : Base) → Sized b → recordRefusal b ≡ 0 → stopped b ≡ true → Roster (b .n) (finalList b)
 unfolding finalList
 final-roster b S e halted =
     let A = record-passed b e in
     let F = final-stopped b (sound-parts b (A .sound) .final) halted in
-    record { count = length-take-le (b .n) (b .«final_list») (omega (arith, S .final, A .net .most)); above-zero = F .above-zero; ascends = F .ascends }
+    record {
+      count = length-take-le (b .n) (b .«final_list») (omega (arith, S .final, A .net .most));
+      above-zero = F .above-zero;
+      ascends = F .ascends;
+    }

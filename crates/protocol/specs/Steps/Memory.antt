@@ -17,22 +17,27 @@ use Rattle.protocol.specs.Steps.Cases.{Takes, takesAnnounce, takesVerify
 use Rattle.protocol.specs.Steps.Laws.{takes-rest, changed, takes-each}
 
 -- ---- lengths
-changed-sized : {b : Base} {i : ℕ} {m : Message} {c : Base} {said : List Message} (T : Takes b i m c said) → length (idsOf m) ≤ mostBases → SizedLink (linkAt b i) → SizedLink (changed T)
+changed-sized : {b : Base} {i : ℕ} {m : Message} {c : Base} {said : List Message} (T : Takes b i m c said) → length (idsOf m) ≤ mostBases
+    → SizedLink (linkAt b i) → SizedLink (changed T)
 unfolding changed withAnnounce withVerify withVector idsOf
 changed-sized (takesAnnounce g p q r) h S = record { verifies = S .verifies; list = S .list }
-changed-sized {b} {i} (takesVerify g p q) h S = record { verifies = length-set (linkAt b i .verifies) (linkAt b i .«verify_count») g ∙ S .verifies; list = S .list }
+changed-sized {b} {i} (takesVerify g p q) h S =
+    record { verifies = length-set (linkAt b i .verifies) (linkAt b i .«verify_count») g ∙ S .verifies; list = S .list }
 changed-sized (takesCorrect v o p) h S = record { verifies = S .verifies; list = length-pad mostBases v h }
 changed-sized (takesAndVotes v o p) h S = record { verifies = S .verifies; list = length-pad mostBases v h }
 changed-sized (takesVerifyFinal v o) h S = record { verifies = S .verifies; list = length-pad mostBases v h }
 
-pub takes-sized : {b : Base} {i : ℕ} {m : Message} {c : Base} {said : List Message} → Takes b i m c said → i < mostLinks → length (idsOf m) ≤ mostBases → Sized b → Sized c
+pub takes-sized : {b : Base} {i : ℕ} {m : Message} {c : Base} {said : List Message} → Takes b i m c said → i < mostLinks
+    → length (idsOf m) ≤ mostBases → Sized b → Sized c
 takes-sized {i = i} T here h S = record {
   final = ap length (takes-rest T .final) ∙ S .final;
   links = takes-rest T .places ∙ S .links;
-  each = takes-each (λ (j : ℕ) (l : Link). SizedLink l) mostLinks T (omega (arith, S .links)) (changed-sized T h (S .each i here)) (S .each);
+  each =
+      takes-each (λ (j : ℕ) (l : Link). SizedLink l) mostLinks T (omega (arith, S .links)) (changed-sized T h (S .each i here)) (S .each);
 }
 
-pub stops-sized : (c : Base) (state : ℕ) (v : List ℕ) (said : List Message) → length v ≤ mostBases → Sized c → Sized (stops c state v said .base)
+pub stops-sized : (c : Base) (state : ℕ) (v : List ℕ) (said : List Message) → length v ≤ mostBases → Sized c
+    → Sized (stops c state v said .base)
 unfolding stops accepts withState withFinal linkAt
 stops-sized c state v said h S = record { final = length-pad mostBases v h; links = S .links; each = S .each }
 
@@ -41,7 +46,8 @@ unfolding withState linkAt
 begun-sized b S = record { final = S .final; links = S .links; each = S .each }
 
 -- ---- identifiers
-changed-word : {b : Base} {i : ℕ} {m : Message} {c : Base} {said : List Message} (T : Takes b i m c said) → Below (2 ^ 32) (idsOf m) → linkAt b i .announce < 2 ^ 32 → changed T .announce < 2 ^ 32
+changed-word : {b : Base} {i : ℕ} {m : Message} {c : Base} {said : List Message} (T : Takes b i m c said) → Below (2 ^ 32) (idsOf m)
+    → linkAt b i .announce < 2 ^ 32 → changed T .announce < 2 ^ 32
 unfolding changed withAnnounce withVerify withVector idsOf
 changed-word (takesAnnounce g p q r) h w = h 0
 changed-word (takesVerify g p q) h w = w
@@ -49,10 +55,12 @@ changed-word (takesCorrect v o p) h w = w
 changed-word (takesAndVotes v o p) h w = w
 changed-word (takesVerifyFinal v o) h w = w
 
-pub takes-words : {b : Base} {i : ℕ} {m : Message} {c : Base} {said : List Message} → Takes b i m c said → i < mostLinks → Below (2 ^ 32) (idsOf m) → Sized b → Words b → Words c
+pub takes-words : {b : Base} {i : ℕ} {m : Message} {c : Base} {said : List Message} → Takes b i m c said → i < mostLinks
+    → Below (2 ^ 32) (idsOf m) → Sized b → Words b → Words c
 takes-words {i = i} T here h S W = record {
   own = subst (λ (x : ℕ). x < 2 ^ 32) (sym (takes-rest T .setting .own)) (W .own);
-  announced = takes-each (λ (j : ℕ) (l : Link). l .announce < 2 ^ 32) mostLinks T (omega (arith, S .links)) (changed-word T h (W .announced i here)) (W .announced);
+  announced = takes-each (λ (j : ℕ) (l : Link). l .announce < 2 ^ 32) mostLinks T (omega (arith, S .links))
+      (changed-word T h (W .announced i here)) (W .announced);
 }
 
 pub stops-words : (c : Base) (state : ℕ) (v : List ℕ) (said : List Message) → Words c → Words (stops c state v said .base)

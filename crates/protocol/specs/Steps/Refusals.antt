@@ -1,5 +1,5 @@
--- A call is turned down and changes nothing, or it is a step: what holds of both holds of the call. And what a call that is not turned down has: a sound
--- record, room in the output, a link's place and a valid message.
+-- A call is turned down and changes nothing, or it is a step: what holds of both holds of the call. And what a call that is not turned down
+-- has: a sound record, room in the output, a link's place and a valid message.
 use Prim.Native.Nat.{ℕ, _-_, _≤_, _<_}
 use mathlib.Core.Path.{_≡_, _∙_, subst}
 use mathlib.Core.Logic.{_≢_}
@@ -12,7 +12,8 @@ use Rattle.limits.specs.Limits.{outputRoom}
 use Rattle.limits.specs.Refusals.{NetSize}
 use Rattle.limits.specs.Refusals.Laws.{net-passes}
 use Rattle.lists.specs.Choice.{first}
-use Rattle.lists.specs.Choice.Laws.{choose-ind, choose-yes, choose-no, or-false, or-first, or-second, or-neither, passed, first-none, first-passed}
+use Rattle.lists.specs.Choice.Laws.{choose-ind, choose-yes, choose-no, or-false, or-first}
+use Rattle.lists.specs.Choice.Laws.{or-second, or-neither, passed, first-none, first-passed}
 use Rattle.lists.specs.Lists.{Below}
 use Rattle.frame.specs.Message.{Message, Valid}
 use Rattle.frame.specs.Reading.{burstRefusal, readRefusal, messageOf}
@@ -21,7 +22,8 @@ use Rattle.protocol.specs.declared.Base.{Base}
 use Rattle.protocol.specs.Sound.{recordRefusal}
 use Rattle.protocol.specs.Sound.Laws.{record-passed}
 use Rattle.protocol.specs.Net.{callRefusal}
-use Rattle.protocol.specs.Steps.{Done, refuses, startStep, arrivalStep, linkRefusal, outputRefusal, unless, start, arrivalRefusal, arrival}
+use Rattle.protocol.specs.Steps.{Done, refuses, startStep, arrivalStep, linkRefusal}
+use Rattle.protocol.specs.Steps.{outputRefusal, unless, start, arrivalRefusal, arrival}
 
 -- a call that is not turned down is a step, and one that is changes nothing
 pub unless-passed : {r : ℕ} (b : Base) (d : Done) → r ≡ 0 → unless r b d ≡ d
@@ -36,26 +38,32 @@ unless-cases : (P : Done → Type 0) (r : ℕ) (b : Base) (d : Done) → (r ≢ 
 unfolding unless
 unless-cases P r b d down on = choose-ind P (eqb r 0) (λ e. on (eqb-true r 0 e)) (λ e. down (eqb-false r 0 e))
 
-pub start-cases : (P : Done → Type 0) (b : Base) (room : ℕ) → ((r : ℕ) → r ≢ 0 → P (refuses b r)) → (recordRefusal b ≡ 0 → P (startStep b)) → P (start b room)
+pub start-cases : (P : Done → Type 0) (b : Base) (room : ℕ) → ((r : ℕ) → r ≢ 0 → P (refuses b r)) → (recordRefusal b ≡ 0 → P (startStep b))
+    → P (start b room)
 unfolding start
-start-cases P b room down on = unless-cases P (first (recordRefusal b) (outputRefusal room)) b (startStep b) (down _) (λ e. on (first-passed _ _ e .0))
+start-cases P b room down on =
+    unless-cases P (first (recordRefusal b) (outputRefusal room)) b (startStep b) (down _) (λ e. on (first-passed _ _ e .0))
 
 pub arrival-cases : (P : Done → Type 0) (b : Base) (link : ℕ) (burst : List ℕ) (room : ℕ) → ((r : ℕ) → r ≢ 0 → P (refuses b r))
     → (arrivalRefusal b link burst room ≡ 0 → P (arrivalStep b (link - 1) (messageOf burst))) → P (arrival b link burst room)
 unfolding arrival
-arrival-cases P b link burst room down = unless-cases P (arrivalRefusal b link burst room) b (arrivalStep b (link - 1) (messageOf burst)) (down _)
+arrival-cases P b link burst room down =
+    unless-cases P (arrivalRefusal b link burst room) b (arrivalStep b (link - 1) (messageOf burst)) (down _)
 
 -- what holds of the step holds of a call that is not turned down
 refuses-not : (P : Done → Type 0) (b : Base) (r : ℕ) → r ≢ 0 → callRefusal (refuses b r .answer) ≡ 0 → P (refuses b r)
 unfolding refuses callRefusal
 refuses-not P b r h e = absurd (h e)
 
-pub start-answered : (P : Done → Type 0) (b : Base) (room : ℕ) → (recordRefusal b ≡ 0 → P (startStep b)) → callRefusal (start b room .answer) ≡ 0 → P (start b room)
+pub start-answered : (P : Done → Type 0) (b : Base) (room : ℕ) → (recordRefusal b ≡ 0 → P (startStep b))
+    → callRefusal (start b room .answer) ≡ 0 → P (start b room)
 start-answered P b room on = start-cases (λ (d : Done). callRefusal (d .answer) ≡ 0 → P d) b room (refuses-not P b) (λ e _. on e)
 
-pub arrival-answered : (P : Done → Type 0) (b : Base) (link : ℕ) (burst : List ℕ) (room : ℕ) → (arrivalRefusal b link burst room ≡ 0 → P (arrivalStep b (link - 1) (messageOf burst)))
+pub arrival-answered : (P : Done → Type 0) (b : Base) (link : ℕ) (burst : List ℕ) (room : ℕ)
+    → (arrivalRefusal b link burst room ≡ 0 → P (arrivalStep b (link - 1) (messageOf burst)))
     → callRefusal (arrival b link burst room .answer) ≡ 0 → P (arrival b link burst room)
-arrival-answered P b link burst room on = arrival-cases (λ (d : Done). callRefusal (d .answer) ≡ 0 → P d) b link burst room (refuses-not P b) (λ e _. on e)
+arrival-answered P b link burst room on =
+    arrival-cases (λ (d : Done). callRefusal (d .answer) ≡ 0 → P d) b link burst room (refuses-not P b) (λ e _. on e)
 
 -- ---- what is not turned down
 -- an arrival: a record to work on, a link's place and a valid message
@@ -66,7 +74,9 @@ pub record Heard (b : Base) (i : ℕ) (m : Message) : Type 0 where
 
 pub burst-valid : (n : ℕ) → NetSize n → (s : List ℕ) → Below 256 s → burstRefusal n s ≡ 0 → Valid n (messageOf s)
 unfolding readRefusal
-burst-valid n N s bytes e = let S = accepted-sent n N s bytes (first-none _ (net-passes N) ∙ e) in subst (Valid n) (message-unique n N s S) (S .valid)
+burst-valid n N s bytes e =
+    let S = accepted-sent n N s bytes (first-none _ (net-passes N) ∙ e) in
+    subst (Valid n) (message-unique n N s S) (S .valid)
 
 -- what numbers 5 and 6 leave
 pub link-passed : (n link : ℕ) → linkRefusal n link ≡ 0 → (1 ≤ link) × (link ≤ n - 1)
@@ -100,7 +110,8 @@ pub output-wide : (room : ℕ) → outputRoom ≤ room → outputRefusal room �
 unfolding outputRefusal
 output-wide room h = choose-no _ _ (le-ltb room outputRoom h)
 
-pub arrival-heard : (b : Base) (link : ℕ) (burst : List ℕ) (room : ℕ) → Below 256 burst → arrivalRefusal b link burst room ≡ 0 → Heard b (link - 1) (messageOf burst)
+pub arrival-heard : (b : Base) (link : ℕ) (burst : List ℕ) (room : ℕ) → Below 256 burst → arrivalRefusal b link burst room ≡ 0
+    → Heard b (link - 1) (messageOf burst)
 unfolding arrivalRefusal
 arrival-heard b link burst room bytes e =
     let p = first-passed _ _ e in

@@ -18,7 +18,9 @@ wide-requires : tie.Need-wide-requires
 wide-requires c κs = search needs
 
 mul-result : tie.Need-mul-result
-mul-result c = omega (arith, c .wide .ensures, c .before .shared-slice-known2 .given (length (c .before .before .before .args .burst .now) - 2))
+mul-result c =
+    let a = c .before .before .before .args in
+    omega (arith, c .wide .ensures, c .before .shared-slice-known2 .given (length (a .burst .now) - 2))
 
 sub-wide-2 : tie.Need-sub-wide-2
 sub-wide-2 c = search needs
@@ -30,8 +32,17 @@ wide-requires-2 : tie.Need-wide-requires-2
 wide-requires-2 c κs = search needs
 
 add-result : tie.Need-add-result
-add-result c = let s = c .before .before .before .before .before .args .burst .now in
-    omega (arith, c .before .before .wide .ensures, c .wide2 .ensures, c .before .shared-slice-known3 .given (length s - 2), c .before .shared-slice-known3 .given (length s - 1))
+add-result c =
+    let a = c .before .before .before .before .before .args in
+    let wide = c .before .before .wide in
+    let s = a .burst .now in
+    omega (
+      arith,
+      wide .ensures,
+      c .wide2 .ensures,
+      c .before .shared-slice-known3 .given (length s - 2),
+      c .before .shared-slice-known3 .given (length s - 1),
+    )
 
 returns : tie.Need-returns
 unfolding backDistance fromEnd

@@ -13,7 +13,10 @@ use Rattle.reader.proofs.body_refusal.Tie as tie
 
 few : (c : tie.After-identifiers) → c .before .before .wide .result ≤ length (c .identifiers .result)
 unfolding countByte fromEnd
-few c = omega (arith, c .before .before .wide .ensures, c .before .before .before .before .before .pre .few, ap length (c .identifiers .ensures) ∙ length-array _)
+few c =
+    let pre = c .before .before .before .before .before .pre in
+    let wide = c .before .before .wide in
+    omega (arith, wide .ensures, pre .few, ap length (c .identifiers .ensures) ∙ length-array _)
 
 sub-wide : tie.Need-sub-wide
 sub-wide c = search needs
@@ -41,8 +44,15 @@ list-refusal-requires c κs = search needs
 
 returns : tie.Need-returns
 unfolding countByte fromEnd
-returns c = let s = c .before .before .before .before .before .before .before .args .burst .now in
-    c .list-refusal .ensures ∙ ap listRefusal (ap₂ take (c .before .before .before .before .wide .ensures) (c .before .before .identifiers .ensures ∙ ap idArray (c .before .before .before .body-in .ensures .0)) ∙ array-front s (c .before .before .before .before .before .before .before .pre))
+returns c =
+    let a = c .before .before .before .before .before .before .before .args in
+    let pre = c .before .before .before .before .before .before .before .pre in
+    let wide = c .before .before .before .before .wide in
+    let body-in = c .before .before .before .body-in in
+    let identifiers = c .before .before .identifiers in
+    let s = a .burst .now in
+    c .list-refusal .ensures
+    ∙ ap listRefusal (ap₂ take (wide .ensures) (identifiers .ensures ∙ ap idArray (body-in .ensures .0)) ∙ array-front s pre)
 
 pub body-refusal-spec : {M : Type 1} → statement M
 body-refusal-spec =

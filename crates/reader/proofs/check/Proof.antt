@@ -20,16 +20,28 @@ trailer-refusal-requires c κs = net-passed _ (sym (c .before .net-refusal .ensu
 
 returns-2 : tie.Need-returns-2
 unfolding readRefusal burstRefusal
-returns-2 c = let e = c .before .trailer-refusal .ensures in
-    e ∙ sym (first-none _ (sym (c .before .before .before .net-refusal .ensures) ∙ c .before .before .if1 .left) ∙ first-given _ (λ z. c .if2 .taken (e ∙ z)))
+returns-2 c =
+    let net-refusal = c .before .before .before .net-refusal in
+    let if1 = c .before .before .if1 in
+    let e = c .before .trailer-refusal .ensures in
+    e ∙ sym (first-none _ (sym (net-refusal .ensures) ∙ if1 .left) ∙ first-given _ (λ z. c .if2 .taken (e ∙ z)))
 
 body-refusal-requires : tie.Need-body-refusal-requires
-body-refusal-requires c κs = passed-framed (c .before .before .before .before .before .args .n) _ (net-passed _ (sym (c .before .before .before .net-refusal .ensures) ∙ c .before .before .if1 .left)) (sym (c .before .trailer-refusal .ensures) ∙ c .if2 .left)
+body-refusal-requires c κs =
+    let a = c .before .before .before .before .before .args in
+    let net-refusal = c .before .before .before .net-refusal in
+    let if1 = c .before .before .if1 in
+    passed-framed (a .n) _ (net-passed _ (sym (net-refusal .ensures) ∙ if1 .left))
+    (sym (c .before .trailer-refusal .ensures) ∙ c .if2 .left)
 
 returns-3 : tie.Need-returns-3
 unfolding readRefusal burstRefusal
 returns-3 c =
-    c .body-refusal .ensures ∙ sym (first-none _ (sym (c .before .before .before .before .net-refusal .ensures) ∙ c .before .before .before .if1 .left) ∙ first-none _ (sym (c .before .before .trailer-refusal .ensures) ∙ c .before .if2 .left))
+    let net-refusal = c .before .before .before .before .net-refusal in
+    let if1 = c .before .before .before .if1 in
+    let trailer-refusal = c .before .before .trailer-refusal in
+    c .body-refusal .ensures
+    ∙ sym (first-none _ (sym (net-refusal .ensures) ∙ if1 .left) ∙ first-none _ (sym (trailer-refusal .ensures) ∙ c .before .if2 .left))
 
 pub check-spec : {M : Type 1} → statement M
 check-spec =

@@ -23,14 +23,16 @@ loop-holds : tie.Need-loop-holds Inv-loop μ-loop
 unfolding padTo spec.identifiers
 loop-holds c = (omega arith, (omega arith, refl))
 
-mul-if1 : tie.Need-mul-if1 Inv-loop μ-loop
-mul-if1 c = omega arith
-
 add-if1 : tie.Need-add-if1 Inv-loop μ-loop
 add-if1 c = omega arith
 
+mul-if1 : tie.Need-mul-if1 Inv-loop μ-loop
+mul-if1 c = omega arith
+
 returns : tie.Need-returns Inv-loop μ-loop
-returns c = let l = c .before .before .loop in l .inv .1 .1 ∙ array-whole (l .i) (c .before .before .before .before .args .body .now) (omega arith)
+returns c =
+    let a = c .before .before .before .before .args in
+    let l = c .before .before .loop in l .inv .1 .1 ∙ array-whole (l .i) (a .body .now) (omega arith)
 
 mul-identifier-at : tie.Need-mul-identifier-at Inv-loop μ-loop
 mul-identifier-at c = omega arith
@@ -52,8 +54,17 @@ loop-less : tie.Need-loop-less Inv-loop μ-loop
 loop-less c = omega arith
 
 loop-again : tie.Need-loop-again Inv-loop μ-loop
-loop-again c = let l = c .before .before .before .loop in let b = c .before .before .before .before .before .args .body .now in
-    (omega arith, (omega arith, ap (λ (a : List ℕ). set a (l .i) (c .identifier-at .result)) (l .inv .1 .1) ∙ rw (c .identifier-at .ensures) (array-next (l .i) b (omega arith))))
+loop-again c =
+    let a′ = c .before .before .before .before .before .args in
+    let l = c .before .before .before .loop in
+    let b = a′ .body .now in (
+      omega arith,
+      (
+        omega arith,
+        ap (λ (a : List ℕ). set a (l .i) (c .identifier-at .result)) (l .inv .1 .1)
+            ∙ rw (c .identifier-at .ensures) (array-next (l .i) b (omega arith)),
+      ),
+    )
 
 returns-2 : tie.Need-returns-2 Inv-loop μ-loop
 returns-2 c = let l = c .before .loop in l .inv .1 .1 ∙ array-whole (l .i) (c .before .before .before .args .body .now) (omega arith)
@@ -65,8 +76,8 @@ identifiers-spec =
     Inv-loop
     μ-loop
     loop-holds
-    mul-if1
     add-if1
+    mul-if1
     returns
     mul-identifier-at
     identifier-at-requires

@@ -47,8 +47,12 @@ sub-t9 c = omega (arith, framed (c .before .before .before .before), c .back-dis
 returns-2 : tie.Need-returns-2
 unfolding readingOf kindByte countByte bodyStart fromEnd
 returns-2 c =
-    let s = c .before .before .before .before .before .before .before .args .burst .now in
-    chosen-yes _ (eq-eqb _ 0 (sym (c .before .before .before .before .before .check .ensures) ∙ c .before .before .before .before .if1 .left)) (ap₂ (λ (k b : ℕ). Message (kindByte s) k (length s - b)) (c .before .wide .ensures) (c .back-distance .ensures))
+    let a = c .before .before .before .before .before .before .before .args in
+    let check = c .before .before .before .before .before .check in
+    let if1 = c .before .before .before .before .if1 in
+    let s = a .burst .now in
+    chosen-yes _ (eq-eqb _ 0 (sym (check .ensures) ∙ if1 .left))
+    (ap₂ (λ (k b : ℕ). Message (kindByte s) k (length s - b)) (c .before .wide .ensures) (c .back-distance .ensures))
 
 pub read-spec : {M : Type 1} → statement M
 read-spec =

@@ -1,107 +1,102 @@
--- `reader::trailer_refusal` meets its contract: each return is the definition at the tests that led there. After number 9 the count byte is the one expected, so the length of the kind's shape is 4 × count + 4.
-use mathlib.Core.Path.{sym, ap, _∙_}
+-- `reader::trailer_refusal` meets its contract: the three checks stand in the order of the definition. After number 9 the count byte is the
+-- one expected, so the length of the kind's frame is 4 × count + 4.
+use mathlib.Core.Path.{_≡_, sym, ap, _∙_}
 use native.Mathlib.Omega.{arith}
-use borrow.Author.Tests.{lt-ltb, le-ltb, eq-eqb, ne-eqb}
+use Rattle.lists.specs.Choice.Laws.{first-none, first-given}
+use Rattle.frame.specs.Reading.{fromEnd, kindByte, countByte, kindRefusal, trailerRefusal}
+use Rattle.frame.specs.Reading.Laws.{length-passed, kind-size}
 use borrow.Author.Needs.{needs}
-use lib.ListN.{length}
-use Rattle.frame.specs.Reading.{backDistance, trailerRefusal, kindByte, countByte, fromEnd}
-use Rattle.frame.specs.Message.Laws.{shape-unknown, shape-known}
-use Rattle.lists.specs.Choice.{choose, or}
-use Rattle.limits.specs.Limits.{frameBytes}
 use Rattle.reader.proofs.trailer_refusal.Statement.{statement}
 use Rattle.reader.proofs.trailer_refusal.Tie as tie
 
-returns : tie.Need-returns
-unfolding trailerRefusal choose or
-returns c = simp (lt-ltb _ _ (c .if1 .taken))
+-- numbers 8 and 9 are asked of the trailer's kind and count
+of-the-trailer : (c : tie.After-kind-refusal) → let a = c .before .before .before .before .before .before .before .args in
+    c .kind-refusal .result ≡ kindRefusal (a .n) (kindByte (a .burst .now)) (countByte (a .burst .now))
+unfolding kindByte countByte fromEnd
+of-the-trailer c =
+    let a = c .before .before .before .before .before .before .before .args in
+    c .kind-refusal .ensures ∙ ap (kindRefusal (a .n) _) (c .before .wide .ensures)
 
-returns-2 : tie.Need-returns-2
-unfolding trailerRefusal choose or
-returns-2 c = simp (le-ltb _ _ (c .before .if1 .left), lt-ltb _ _ (c .if2 .taken))
+length-refusal-requires : tie.Need-length-refusal-requires
+length-refusal-requires c κs = search needs
+
+returns : tie.Need-returns
+unfolding trailerRefusal
+returns c = let e = c .before .length-refusal .ensures in e ∙ sym (first-given _ (λ z. c .if1 .taken (e ∙ z)))
 
 sub-kind : tie.Need-sub-kind
-sub-kind c = search needs
+sub-kind c = omega (arith, length-passed _ (sym (c .before .length-refusal .ensures) ∙ c .if1 .left))
 
 shared-slice-read-kind : tie.Need-shared-slice-read-kind
-shared-slice-read-kind c = search needs
-
-cast-shape-of : tie.Need-cast-shape-of
-cast-shape-of c = omega arith
-
-shape-of-requires : tie.Need-shape-of-requires
-shape-of-requires c κs = search needs
-
-enum-known-count : tie.Need-enum-known-count
-enum-known-count c = search needs
-
-enum-told : tie.Need-enum-told
-enum-told c = search needs
-
-returns-3 : tie.Need-returns-3
-unfolding trailerRefusal choose or kindByte fromEnd
-returns-3 c =
-    simp (le-ltb _ _ (c .before .before .before .before .before .if1 .left), le-ltb _ _ (c .before .before .before .before .if2 .left), shape-unknown _ _ (sym (c .before .before .shape-of .ensures) ∙ c .enum-told .given .1))
+shared-slice-read-kind c = omega (arith, length-passed _ (sym (c .before .before .length-refusal .ensures) ∙ c .before .if1 .left))
 
 sub-wide : tie.Need-sub-wide
-sub-wide c = search needs
+sub-wide c = omega (arith, length-passed _ (sym (c .before .before .length-refusal .ensures) ∙ c .before .if1 .left))
 
 shared-slice-read-wide : tie.Need-shared-slice-read-wide
-shared-slice-read-wide c = search needs
+shared-slice-read-wide c =
+    let length-refusal = c .before .before .before .length-refusal in
+    let if1 = c .before .before .if1 in
+    omega (arith, length-passed _ (sym (length-refusal .ensures) ∙ if1 .left))
 
 wide-requires : tie.Need-wide-requires
 wide-requires c κs = search needs
 
-returns-4 : tie.Need-returns-4
-unfolding trailerRefusal choose or kindByte countByte fromEnd
-returns-4 c =
-    let s = shape-known _ _ (sym (c .before .before .before .before .before .before .shape-of .ensures) ∙ c .before .before .before .before .count .given .1) in
-    simp (le-ltb _ _ (c .before .before .before .before .before .before .before .before .before .if1 .left), le-ltb _ _ (c .before .before .before .before .before .before .before .before .if2 .left), s .0, ne-eqb _ _ (λ e. c .if3 .taken (c .before .wide .ensures ∙ e ∙ sym (s .1 .0))))
+cast-kind-refusal : tie.Need-cast-kind-refusal
+cast-kind-refusal c = search needs
 
-back-distance-requires : tie.Need-back-distance-requires
-back-distance-requires c κs = search needs
+kind-refusal-requires : tie.Need-kind-refusal-requires
+kind-refusal-requires c κs = search needs
 
-returns-5 : tie.Need-returns-5
-unfolding trailerRefusal choose or kindByte countByte fromEnd
-returns-5 c =
-    let s = shape-known _ _ (sym (c .before .before .before .before .before .before .before .before .shape-of .ensures) ∙ c .before .before .before .before .before .before .count .given .1) in
-    let k = sym (c .before .before .before .wide .ensures) ∙ c .before .before .if3 .left ∙ s .1 .0 in
-    simp (le-ltb _ _ (c .before .before .before .before .before .before .before .before .before .before .before .if1 .left), le-ltb _ _ (c .before .before .before .before .before .before .before .before .before .before .if2 .left), s .0, eq-eqb _ _ k, ne-eqb _ _ (λ e. c .if4 .taken (c .before .back-distance .ensures ∙ e ∙ ap frameBytes k ∙ sym (s .1 .1))))
+returns-2 : tie.Need-returns-2
+unfolding trailerRefusal
+returns-2 c =
+    let length-refusal = c .before .before .before .before .before .before .length-refusal in
+    let if1 = c .before .before .before .before .before .if1 in
+    let z = sym (length-refusal .ensures) ∙ if1 .left in
+    let e = of-the-trailer (c .before) in e ∙ sym (first-none _ z ∙ first-given _ (λ q. c .if2 .taken (e ∙ q)))
 
-returns-6 : tie.Need-returns-6
-unfolding trailerRefusal choose or kindByte countByte fromEnd
-returns-6 c =
-    let a = c .before .before .before .before .before .before .before .before .before .before .before .before .before .before .args .burst .now in
-    let s = shape-known _ _ (sym (c .before .before .before .before .before .before .before .before .before .shape-of .ensures) ∙ c .before .before .before .before .before .before .before .count .given .1) in
-    let k = sym (c .before .before .before .before .wide .ensures) ∙ c .before .before .before .if3 .left ∙ s .1 .0 in
-    let b = sym (c .before .before .back-distance .ensures) in
-    simp (le-ltb _ _ (c .before .before .before .before .before .before .before .before .before .before .before .before .if1 .left), le-ltb _ _ (c .before .before .before .before .before .before .before .before .before .before .before .if2 .left), s .0, eq-eqb _ _ k, eq-eqb _ _ (b ∙ c .before .if4 .left ∙ s .1 .1 ∙ ap frameBytes (sym k)), lt-ltb (length a) (backDistance a) (omega (arith, b)))
+cast-length-of : tie.Need-cast-length-of
+cast-length-of c = search needs
 
-returns-7 : tie.Need-returns-7
-unfolding trailerRefusal choose or kindByte countByte fromEnd
-returns-7 c =
-    let a = c .before .before .before .before .before .before .before .before .before .before .before .before .before .before .args .burst .now in
-    let s = shape-known _ _ (sym (c .before .before .before .before .before .before .before .before .before .shape-of .ensures) ∙ c .before .before .before .before .before .before .before .count .given .1) in
-    let k = sym (c .before .before .before .before .wide .ensures) ∙ c .before .before .before .if3 .left ∙ s .1 .0 in
-    let b = sym (c .before .before .back-distance .ensures) in
-    simp (le-ltb _ _ (c .before .before .before .before .before .before .before .before .before .before .before .before .if1 .left), le-ltb _ _ (c .before .before .before .before .before .before .before .before .before .before .before .if2 .left), s .0, eq-eqb _ _ k, eq-eqb _ _ (b ∙ c .before .if4 .left ∙ s .1 .1 ∙ ap frameBytes (sym k)), le-ltb (length a) (backDistance a) (omega (arith, b)))
+length-of-requires : tie.Need-length-of-requires
+length-of-requires c κs = search needs
+
+distance-refusal-requires : tie.Need-distance-refusal-requires
+unfolding kindByte fromEnd
+distance-refusal-requires c κs =
+    let a = c .before .before .before .before .before .before .before .before .before .args in
+    let length-refusal = c .before .before .before .before .before .before .before .length-refusal in
+    let if1 = c .before .before .before .before .before .before .if1 in
+    let z = sym (length-refusal .ensures) ∙ if1 .left in
+    let s = a .burst .now in
+    let e = kind-size (a .n) (kindByte s) (countByte s) (sym (of-the-trailer (c .before .before)) ∙ c .before .if2 .left) in
+    (length-passed s z .0, c .length-of .ensures ∙ e)
+
+returns-3 : tie.Need-returns-3
+unfolding trailerRefusal
+returns-3 c =
+    let length-refusal = c .before .before .before .before .before .before .before .before .length-refusal in
+    let if1 = c .before .before .before .before .before .before .before .if1 in
+    let if2 = c .before .before .if2 in
+    let z = sym (length-refusal .ensures) ∙ if1 .left in
+    c .distance-refusal .ensures ∙ sym (first-none _ z ∙ first-none _ (sym (of-the-trailer (c .before .before .before)) ∙ if2 .left))
 
 pub trailer-refusal-spec : {M : Type 1} → statement M
 trailer-refusal-spec =
     tie.close
     (tie.spec
+    length-refusal-requires
     returns
-    returns-2
     sub-kind
     shared-slice-read-kind
-    cast-shape-of shape-of-requires
-    enum-known-count
-    enum-told
-    returns-3
     sub-wide
     shared-slice-read-wide
     wide-requires
-    returns-4
-    back-distance-requires
-    returns-5
-    returns-6
-    returns-7)
+    cast-kind-refusal
+    kind-refusal-requires
+    returns-2
+    cast-length-of
+    length-of-requires
+    distance-refusal-requires
+    returns-3)

@@ -21,7 +21,8 @@ use Rattle.reader.specs.Answers.{readingOf, idArray, numberIn, kindIn}
 message-no-number : {kind count start r : ℕ} → Message kind count start ≡ Refused r → ⊥
 message-no-number e = let z : _≡_ {A = ℕ} 0 1 = cc in omega arith
 
-pub array-next : (i : ℕ) (s : List ℕ) → i < mostBases → set (padTo mostBases (identifiers i s)) i (identifier (drop (4 * i) s)) ≡ padTo mostBases (identifiers (i + 1) s)
+pub array-next : (i : ℕ) (s : List ℕ) → i < mostBases
+    → set (padTo mostBases (identifiers i s)) i (identifier (drop (4 * i) s)) ≡ padTo mostBases (identifiers (i + 1) s)
 array-next i s h =
     pad-next mostBases (identifiers i s) i (identifier (drop (4 * i) s)) (length-identifiers i s) h
     ∙ ap (padTo mostBases) (sym (identifiers-snoc i s) ∙ ap (λ (j : ℕ). identifiers j s) (sym (add-one i)))
@@ -33,7 +34,8 @@ array-whole i s e = ap (λ (k : ℕ). padTo mostBases (identifiers k s)) (sym e)
 
 pub length-array : (s : List ℕ) → length (idArray s) ≡ mostBases
 unfolding idArray
-length-array s = length-pad mostBases (identifiers (min mostBases (length s / 4)) s) (omega (arith, length-identifiers (min mostBases (length s / 4)) s))
+length-array s =
+    length-pad mostBases (identifiers (min mostBases (length s / 4)) s) (omega (arith, length-identifiers (min mostBases (length s / 4)) s))
 
 -- a body's array holds the burst's identifiers
 pub array-of : (s : List ℕ) → Framed s → idArray (bodyOf s) ≡ padTo mostBases (idsIn s)
@@ -44,7 +46,8 @@ pub array-front : (s : List ℕ) → Framed s → take (countByte s) (idArray (b
 array-front s F = ap (take (countByte s)) (array-of s F) ∙ pad-front mostBases (idsIn s) (countByte s) (length-ids-in s)
 
 -- from the body's start to the trailer
-pub stretch-is : (s : List ℕ) (back : ℕ) → Framed s → back ≡ backDistance s → take (length s - 4 - (length s - back)) (drop (length s - back) s) ≡ bodyOf s
+pub stretch-is : (s : List ℕ) (back : ℕ) → Framed s → back ≡ backDistance s
+    → take (length s - 4 - (length s - back)) (drop (length s - back) s) ≡ bodyOf s
 unfolding bodyOf bodyStart
 stretch-is s back F e =
     let k : length s - 4 - (length s - backDistance s) ≡ 4 * countByte s = omega (arith, F) in
@@ -53,10 +56,13 @@ stretch-is s back F e =
 -- ---- the reading
 pub reading-number : (n : ℕ) (s : List ℕ) → numberIn (readingOf n s) ≡ readRefusal n s
 unfolding readingOf numberIn
-reading-number n s = choose-ind (λ (r : Reading). numberIn r ≡ readRefusal n s) (eqb (readRefusal n s) 0) (λ e. sym (eqb-true (readRefusal n s) 0 e)) (λ _. refl)
+reading-number n s =
+    choose-ind (λ (r : Reading). numberIn r ≡ readRefusal n s) (eqb (readRefusal n s) 0) (λ e. sym (eqb-true (readRefusal n s) 0 e))
+    (λ _. refl)
 
 -- a message was not turned down, and its kind is the burst's
-pub reading-message : (n : ℕ) (s : List ℕ) (kind count start : ℕ) → readingOf n s ≡ Message kind count start → (readRefusal n s ≡ 0) × (kind ≡ kindByte s)
+pub reading-message : (n : ℕ) (s : List ℕ) (kind count start : ℕ) → readingOf n s ≡ Message kind count start
+    → (readRefusal n s ≡ 0) × (kind ≡ kindByte s)
 unfolding readingOf numberIn kindIn
 reading-message n s kind count start e =
     let p : readRefusal n s ≡ 0 = sym (reading-number n s) ∙ ap numberIn e in
@@ -65,5 +71,8 @@ reading-message n s kind count start e =
 -- a number that is answered is not 0
 pub reading-refused : (n : ℕ) (s : List ℕ) (r : ℕ) → readingOf n s ≡ Refused r → (readRefusal n s ≡ r) × (r ≢ 0)
 unfolding readingOf numberIn
-reading-refused n s r e =
-    (sym (reading-number n s) ∙ ap numberIn e, choose-ind (λ (x : Reading). x ≡ Refused r → r ≢ 0) (eqb (readRefusal n s) 0) (λ _ q. absurd (message-no-number q)) (λ f q z. eqb-false (readRefusal n s) 0 f (ap numberIn q ∙ z)) e)
+reading-refused n s r e = (
+  sym (reading-number n s) ∙ ap numberIn e,
+  choose-ind (λ (x : Reading). x ≡ Refused r → r ≢ 0) (eqb (readRefusal n s) 0) (λ _ q. absurd (message-no-number q))
+      (λ f q z. eqb-false (readRefusal n s) 0 f (ap numberIn q ∙ z)) e,
+)

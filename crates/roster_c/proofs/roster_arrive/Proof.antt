@@ -41,18 +41,18 @@ use Rattle.protocol.specs.Steps.{arrival, stepOf, outputOf}
 use Rattle.protocol.proofs.Base as T
 use Rattle.protocol.proofs.Outcome as O
 use Rattle.protocol.proofs.Outcome.Laws as O′
-use Rattle.numbers.specs.declared.Answer.{Answer}
-use Rattle.numbers.specs.Numbers.{outcomeNumbers}
-use Rattle.numbers.proofs.Answer as N
-use Rattle.numbers.proofs.Answer.Laws as N′
-use Rattle.entry.proofs.arrive as entry
-use Rattle.entry.proofs.arrive.Symbol as entry-def
-use Rattle.entry.proofs.arrive.Symbol.{name as #entry·arrive}
-use Rattle.entry.proofs.arrive.Met as entry-thm
-use Rattle.numbers.proofs.outcome_numbers as numbers
-use Rattle.numbers.proofs.outcome_numbers.Symbol as numbers-def
-use Rattle.numbers.proofs.outcome_numbers.Symbol.{name as #numbers·outcome-numbers}
-use Rattle.numbers.proofs.outcome_numbers.Met as numbers-thm
+use Rattle.c_answers.specs.declared.CallAnswer.{CallAnswer}
+use Rattle.c_answers.specs.Numbers.{outcomeNumbers}
+use Rattle.c_answers.proofs.CallAnswer as N
+use Rattle.c_answers.proofs.CallAnswer.Laws as N′
+use Rattle.lent_calls.proofs.arrive as entry
+use Rattle.lent_calls.proofs.arrive.Symbol as entry-def
+use Rattle.lent_calls.proofs.arrive.Symbol.{name as #lent-calls·arrive}
+use Rattle.lent_calls.proofs.arrive.Met as entry-thm
+use Rattle.c_answers.proofs.outcome_numbers as numbers
+use Rattle.c_answers.proofs.outcome_numbers.Symbol as numbers-def
+use Rattle.c_answers.proofs.outcome_numbers.Symbol.{name as #c-answers·outcome-numbers}
+use Rattle.c_answers.proofs.outcome_numbers.Met as numbers-thm
 use Rattle.roster_c.proofs.roster_arrive.Key.{name as #roster-arrive}
 use Rattle.roster_c.proofs.roster_arrive as f
 use Rattle.roster_c.proofs.roster_arrive.Statement as stated
@@ -107,7 +107,7 @@ module _ {M : Type 1} (𝓤 : URA M) (H : Heap 𝓤) (A : Atoms 𝓤) (W : Given
   abbrev Said : Outcome → Base → List ℕ → Type 0
   Said r h′ zs = (r ≡ stepOf (arrival h i (x₁ .now) (length (x₂ .now))) .outcome) × ((h′ ≡ stepOf (arrival h i (x₁ .now) (length (x₂ .now))) .base) × (zs ≡ outputOf (arrival h i (x₁ .now) (length (x₂ .now))) (x₂ .now)))
 
-  exits : (r : Outcome) (h′ : Base) (zs : List ℕ) (a : Answer) (w : Val) → Said r h′ zs → length zs ≡ length (x₂ .now) → a ≡ outcomeNumbers r
+  exits : (r : Outcome) (h′ : Base) (zs : List ℕ) (a : CallAnswer) (w : Val) → Said r h′ zs → length zs ≡ length (x₂ .now) → a ≡ outcomeNumbers r
       → ent 𝓤 (⋆ 𝓤 H A (‵ (N.the-row .own a (w ∷ [])) ∷ (‵ (flft κ q) ⊛ ‵ (flft κ₁ q₁) ⊛ ‵ (flft κ₂ q₂) ⊛ ‵ ftrue) ∷ ‵ (finally u8 (x₂ .name) zs) ∷ ‵ (fres γ (T.the-row .coded .code h′)) ∷ [])) (Post w)
   exits r h′ zs a w e l n =
       qed W (‵ (N.the-row .own a (w ∷ [])) ∷ (‵ (flft κ q) ⊛ ‵ (flft κ₁ q₁) ⊛ ‵ (flft κ₂ q₂) ⊛ ‵ ftrue) ∷ ‵ (finally u8 (x₂ .name) zs) ∷ ‵ (fres γ (T.the-row .coded .code h′)) ∷ []) ∵
@@ -115,7 +115,7 @@ module _ {M : Type 1} (𝓤 : URA M) (H : Heap 𝓤) (A : Atoms 𝓤) (W : Given
       says ! (n ∙ ap outcomeNumbers (e .0), e .1) $ move ! (1 ∷ []) $ frame ! $ nothing ! $ move ! (2 ∷ 0 ∷ []) $ fjoin ! $ nothing ! $ fjoin ! $
       owned ! usize (Is usize) (uint-makes 𝓤 H A W w64) i _ (refl, i-fits) $ fjoin ! $ move ! (2 ∷ 0 ∷ []) $ fjoin ! $ done !
 
-  module _ (C : Calls 𝓤 H) (Λ : Loops 𝓤 H) (fm : FmC 𝓤 H (W .laws) C) (entry-known : Triple 𝓤 (C #entry·arrive) (Entry 𝓤 H A at-mem run)) (numbers-known : Triple 𝓤 (C #numbers·outcome-numbers) (Numbers 𝓤 H A at-mem run)) where
+  module _ (C : Calls 𝓤 H) (Λ : Loops 𝓤 H) (fm : FmC 𝓤 H (W .laws) C) (entry-known : Triple 𝓤 (C #lent-calls·arrive) (Entry 𝓤 H A at-mem run)) (numbers-known : Triple 𝓤 (C #c-answers·outcome-numbers) (Numbers 𝓤 H A at-mem run)) where
     walk : ent 𝓤 (onEntry 𝓤 H A f.signature (κ, (κ₁, (κ₂, tt))) (q, (q₁, (q₂, tt))) x at) (WpFn 𝓤 H C Λ code.function (vptr b o ∷ vint w64 i ∷ s₁ ∷ s₂ ∷ []) Post)
     walk =
         qed W ((‵ (flft κ q) ⊛ ‵ (flft κ₁ q₁) ⊛ ‵ (flft κ₂ q₂) ⊛ ‵ ftrue) ∷ ‵ (owns (MutRef (named 0) κ T.the-row ∷ usize ∷ ShrSlice (named 1) κ₁ u8 ∷ MutSlice (named 2) κ₂ u8 ∷ []) x at) ∷ []) ∵
@@ -136,7 +136,7 @@ module _ {M : Type 1} (𝓤 : URA M) (H : Heap 𝓤) (A : Atoms 𝓤) (W : Given
         land ! (from ! (stop !)) (init ! 11 refl (O′.the-field-laws .lawful 𝓤 H A W .typed (O.the-field .into r) _ is .0)) $
         use1 W (raw (Numbers 𝓤 H A at-mem run .pre (to-numbers r v))) (into-numbers r v) $
         calls-at ! fm (Numbers 𝓤 H A at-mem run) numbers-known (to-numbers r v) (and-then ! (load ! (from ! (stop !)) (look ! 11 refl)) (no-more !)) (λ w.
-        use1 W (later (some (λ (a : Answer). (‵ ftrue ⊛ ‵ (N.the-row .own a (w ∷ []))) ⊛ raw (ensured 𝓤 H A numbers.ended (numbers.clauses 𝓤 H A at-mem run) tt (told r) tt a)))) (id⊢ 𝓤 _) $ await ! tt $ pick ! (λ a.
+        use1 W (later (some (λ (a : CallAnswer). (‵ ftrue ⊛ ‵ (N.the-row .own a (w ∷ []))) ⊛ raw (ensured 𝓤 H A numbers.ended (numbers.clauses 𝓤 H A at-mem run) tt (told r) tt a)))) (id⊢ 𝓤 _) $ await ! tt $ pick ! (λ a.
         split ! $ move ! (1 ∷ []) $ use1 W (some (λ (ys : Unit {0} × Unit {0}). ‵ (lasts numbers.ended tt (told r) ys) ⊛ raw (fact 𝓤 (a ≡ outcomeNumbers r)))) (id⊢ 𝓤 _) $ pick ! (λ ys.
         split ! $ move ! (1 ∷ []) $ heard ! (a ≡ outcomeNumbers r) (λ n. drop ! $ split ! $ drop ! $ peeks ! N.the-row (Is N.the-row) (shows 𝓤 H A N.the-row) a (w ∷ []) (λ its.
         -- [what the numbers own; the tokens; the output's last bytes; true; the record's last value; _8; …]
@@ -146,7 +146,7 @@ module _ {M : Type 1} (𝓤 : URA M) (H : Heap 𝓤) (A : Atoms 𝓤) (W : Given
         keep ! (0 ∷ 1 ∷ 2 ∷ 4 ∷ []) $ by ! (exits r (zs .0) (zs .1 .1 .1 .0) a w e l n)))))))))))))))))))))
 
 module _ {M : Type 1} (𝓤 : URA M) (H : Heap 𝓤) (A : Atoms 𝓤) (W : Given 𝓤 H A) (mem : Memory → SProp 𝓤) (run : Routine → Fun 𝓤) where
-  walks : (C : Calls 𝓤 H) (Λ : Loops 𝓤 H) → FmC 𝓤 H (W .laws) C → Triple 𝓤 (C #entry·arrive) (Entry 𝓤 H A mem run) → Triple 𝓤 (C #numbers·outcome-numbers) (Numbers 𝓤 H A mem run)
+  walks : (C : Calls 𝓤 H) (Λ : Loops 𝓤 H) → FmC 𝓤 H (W .laws) C → Triple 𝓤 (C #lent-calls·arrive) (Entry 𝓤 H A mem run) → Triple 𝓤 (C #c-answers·outcome-numbers) (Numbers 𝓤 H A mem run)
       → Walks 𝓤 H A f.ended stayed (WpFn 𝓤 H C Λ code.function) (f.clauses 𝓤 H A mem run)
   walks C Λ fm entry-known numbers-known = walked 𝓤 H A f.ended stayed (f.clauses 𝓤 H A mem run) (WpFn 𝓤 H C Λ code.function)
       (λ κs. (ptr-vals, (uint-vals w64, (slice-vals, (slice-vals, tt))))) (λ κs. (mut-tells (named 0) (κs .0) T.the-row, (uint-tells w64, (shr-slice-tells (named 1) (κs .1 .0) u8, (mut-slice-tells (named 2) (κs .1 .1 .0) u8, tt)))))
@@ -157,8 +157,8 @@ module _ {M : Type 1} (𝓤 : URA M) (H : Heap 𝓤) (A : Atoms 𝓤) (W : Given
   goes : AllGo 𝓤 H A W 3 (f.signature .params) (f.ended .kept) stayed
   goes = (goes-gave-ref 𝓤 H A W 3 0 tt (plain (λ _. T.the-row)), (goes-none 𝓤 H A W 3 (λ _. usize) yes (λ κs x f. refl), (goes-dropped 𝓤 H A W 3 (shrSliceOf (1 ∷ []) tt (plain (λ _. u8))) yes (λ κs x f. refl), (goes-gave-slice 𝓤 H A W 3 2 tt (plain (λ _. u8)), tt))))
 
-meets : {M : Type 1} (𝓤 : URA M) (H : Heap 𝓤) (A : Atoms 𝓤) → Given 𝓤 H A → (mem : Memory → SProp 𝓤) (run : Routine → Fun 𝓤) (𝓣 : Tables 𝓤 H) → Triple 𝓤 (𝓣 .C #entry·arrive) (Entry 𝓤 H A mem run)
-    → Triple 𝓤 (𝓣 .C #numbers·outcome-numbers) (Numbers 𝓤 H A mem run) → Meets 𝓤 H A f.signature (WpFn 𝓤 H (𝓣 .C) (𝓣 .Λ) code.function) (f.spec 𝓤 H A mem run)
+meets : {M : Type 1} (𝓤 : URA M) (H : Heap 𝓤) (A : Atoms 𝓤) → Given 𝓤 H A → (mem : Memory → SProp 𝓤) (run : Routine → Fun 𝓤) (𝓣 : Tables 𝓤 H) → Triple 𝓤 (𝓣 .C #lent-calls·arrive) (Entry 𝓤 H A mem run)
+    → Triple 𝓤 (𝓣 .C #c-answers·outcome-numbers) (Numbers 𝓤 H A mem run) → Meets 𝓤 H A f.signature (WpFn 𝓤 H (𝓣 .C) (𝓣 .Λ) code.function) (f.spec 𝓤 H A mem run)
 meets 𝓤 H A W mem run 𝓣 entry-known numbers-known = walk-meets 𝓤 H A f.ended stayed W (goes 𝓤 H A W mem run) (f.clauses 𝓤 H A mem run) (WpFn 𝓤 H (𝓣 .C) (𝓣 .Λ) code.function) (WpFn-mono 𝓤 H (W .laws) 𝓣 code.function)
     (walks 𝓤 H A W mem run (𝓣 .C) (𝓣 .Λ) (fmOf 𝓤 H (W .laws) 𝓣) entry-known numbers-known)
 
@@ -168,5 +168,5 @@ roster-arrive-spec 𝓤 H 𝓜 𝓖 𝓡 =
     entered 𝓤 H (tripleOf 𝓤 H (𝓖 .A) f.signature (f.spec 𝓤 H (𝓖 .A) (𝓜 .mem) (𝓡 .run)))
     (tables 𝓤 H 𝓜 𝓡 code.env .C) (tables 𝓤 H 𝓜 𝓡 code.env .Λ) #roster-arrive code.function (code.unfolded 𝓤 H 𝓜 𝓡)
     (meets 𝓤 H (𝓖 .A) (givenOf 𝓤 H 𝓜 𝓖) (𝓜 .mem) (𝓡 .run) (tablesOf 𝓤 H 𝓜 (tables 𝓤 H 𝓜 𝓡 code.env))
-    (cited 𝓤 H (Entry 𝓤 H (𝓖 .A) (𝓜 .mem) (𝓡 .run)) 𝓜 𝓡 code.env #entry·arrive entry-def.routine code.calls-entry·arrive (entry-thm.met 𝓤 H 𝓜 𝓖 𝓡))
-    (cited 𝓤 H (Numbers 𝓤 H (𝓖 .A) (𝓜 .mem) (𝓡 .run)) 𝓜 𝓡 code.env #numbers·outcome-numbers numbers-def.routine code.calls-numbers·outcome-numbers (numbers-thm.met 𝓤 H 𝓜 𝓖 𝓡)))
+    (cited 𝓤 H (Entry 𝓤 H (𝓖 .A) (𝓜 .mem) (𝓡 .run)) 𝓜 𝓡 code.env #lent-calls·arrive entry-def.routine code.calls-lent-calls·arrive (entry-thm.met 𝓤 H 𝓜 𝓖 𝓡))
+    (cited 𝓤 H (Numbers 𝓤 H (𝓖 .A) (𝓜 .mem) (𝓡 .run)) 𝓜 𝓡 code.env #c-answers·outcome-numbers numbers-def.routine code.calls-c-answers·outcome-numbers (numbers-thm.met 𝓤 H 𝓜 𝓖 𝓡)))

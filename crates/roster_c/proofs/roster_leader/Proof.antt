@@ -35,18 +35,18 @@ use Rattle.protocol.specs.Steps.{leaderAnswer}
 use Rattle.protocol.proofs.Base as T
 use Rattle.protocol.proofs.Leader as O
 use Rattle.protocol.proofs.Leader.Laws as O′
-use Rattle.numbers.specs.declared.Named.{Named}
-use Rattle.numbers.specs.Numbers.{leaderNumbers}
-use Rattle.numbers.proofs.Named as N
-use Rattle.numbers.proofs.Named.Laws as N′
-use Rattle.entry.proofs.leader as entry
-use Rattle.entry.proofs.leader.Symbol as entry-def
-use Rattle.entry.proofs.leader.Symbol.{name as #entry·leader}
-use Rattle.entry.proofs.leader.Met as entry-thm
-use Rattle.numbers.proofs.leader_numbers as numbers
-use Rattle.numbers.proofs.leader_numbers.Symbol as numbers-def
-use Rattle.numbers.proofs.leader_numbers.Symbol.{name as #numbers·leader-numbers}
-use Rattle.numbers.proofs.leader_numbers.Met as numbers-thm
+use Rattle.c_answers.specs.declared.LeaderAnswer.{LeaderAnswer}
+use Rattle.c_answers.specs.Numbers.{leaderNumbers}
+use Rattle.c_answers.proofs.LeaderAnswer as N
+use Rattle.c_answers.proofs.LeaderAnswer.Laws as N′
+use Rattle.lent_calls.proofs.leader as entry
+use Rattle.lent_calls.proofs.leader.Symbol as entry-def
+use Rattle.lent_calls.proofs.leader.Symbol.{name as #lent-calls·leader}
+use Rattle.lent_calls.proofs.leader.Met as entry-thm
+use Rattle.c_answers.proofs.leader_numbers as numbers
+use Rattle.c_answers.proofs.leader_numbers.Symbol as numbers-def
+use Rattle.c_answers.proofs.leader_numbers.Symbol.{name as #c-answers·leader-numbers}
+use Rattle.c_answers.proofs.leader_numbers.Met as numbers-thm
 use Rattle.roster_c.proofs.roster_leader.Key.{name as #roster-leader}
 use Rattle.roster_c.proofs.roster_leader as f
 use Rattle.roster_c.proofs.roster_leader.Statement as stated
@@ -95,13 +95,13 @@ module _ {M : Type 1} (𝓤 : URA M) (H : Heap 𝓤) (A : Atoms 𝓤) (W : Given
   abbrev Said : Leader → Base → Type 0
   Said r h′ = (r ≡ leaderAnswer h) × (h′ ≡ h)
 
-  exits : (r : Leader) (h′ : Base) (a : Named) (w : Val) → Said r h′ → a ≡ leaderNumbers r → ent 𝓤 (⋆ 𝓤 H A (‵ (N.the-row .own a (w ∷ [])) ∷ (‵ (flft κ q) ⊛ ‵ ftrue) ∷ ‵ (fres γ (T.the-row .coded .code h′)) ∷ [])) (Post w)
+  exits : (r : Leader) (h′ : Base) (a : LeaderAnswer) (w : Val) → Said r h′ → a ≡ leaderNumbers r → ent 𝓤 (⋆ 𝓤 H A (‵ (N.the-row .own a (w ∷ [])) ∷ (‵ (flft κ q) ⊛ ‵ ftrue) ∷ ‵ (fres γ (T.the-row .coded .code h′)) ∷ [])) (Post w)
   exits r h′ a w e n =
       qed W (‵ (N.the-row .own a (w ∷ [])) ∷ (‵ (flft κ q) ⊛ ‵ ftrue) ∷ ‵ (fres γ (T.the-row .coded .code h′)) ∷ []) ∵
       suffices ! _ (ends-at 𝓤 H A f.ended stayed (f.clauses 𝓤 H A at-mem run) W (((κ, tt), (q, tt), tt, x, at), tt) w a (h′, tt) (tt, tt)) $
       says ! (n ∙ ap leaderNumbers (e .0), e .1) $ move ! (1 ∷ []) $ frame ! $ nothing ! $ move ! (2 ∷ 0 ∷ []) $ fjoin ! $ done !
 
-  module _ (C : Calls 𝓤 H) (Λ : Loops 𝓤 H) (fm : FmC 𝓤 H (W .laws) C) (entry-known : Triple 𝓤 (C #entry·leader) (Entry 𝓤 H A at-mem run)) (numbers-known : Triple 𝓤 (C #numbers·leader-numbers) (Numbers 𝓤 H A at-mem run)) where
+  module _ (C : Calls 𝓤 H) (Λ : Loops 𝓤 H) (fm : FmC 𝓤 H (W .laws) C) (entry-known : Triple 𝓤 (C #lent-calls·leader) (Entry 𝓤 H A at-mem run)) (numbers-known : Triple 𝓤 (C #c-answers·leader-numbers) (Numbers 𝓤 H A at-mem run)) where
     walk : ent 𝓤 (onEntry 𝓤 H A f.signature (κ, tt) (q, tt) x at) (WpFn 𝓤 H C Λ code.function (vptr b o ∷ []) Post)
     walk =
         qed W ((‵ (flft κ q) ⊛ ‵ ftrue) ∷ ‵ (owns (MutRef (named 0) κ T.the-row ∷ []) x at) ∷ []) ∵
@@ -119,7 +119,7 @@ module _ {M : Type 1} (𝓤 : URA M) (H : Heap 𝓤) (A : Atoms 𝓤) (W : Given
         land ! (from ! (stop !)) (init ! 6 refl (O′.the-field-laws .lawful 𝓤 H A W .typed (O.the-field .into r) _ is .0)) $
         use1 W (raw (Numbers 𝓤 H A at-mem run .pre (to-numbers r v))) (into-numbers r v) $
         calls-at ! fm (Numbers 𝓤 H A at-mem run) numbers-known (to-numbers r v) (and-then ! (load ! (from ! (stop !)) (look ! 6 refl)) (no-more !)) (λ w.
-        use1 W (later (some (λ (a : Named). (‵ ftrue ⊛ ‵ (N.the-row .own a (w ∷ []))) ⊛ raw (ensured 𝓤 H A numbers.ended (numbers.clauses 𝓤 H A at-mem run) tt (told r) tt a)))) (id⊢ 𝓤 _) $ await ! tt $ pick ! (λ a.
+        use1 W (later (some (λ (a : LeaderAnswer). (‵ ftrue ⊛ ‵ (N.the-row .own a (w ∷ []))) ⊛ raw (ensured 𝓤 H A numbers.ended (numbers.clauses 𝓤 H A at-mem run) tt (told r) tt a)))) (id⊢ 𝓤 _) $ await ! tt $ pick ! (λ a.
         split ! $ move ! (1 ∷ []) $ use1 W (some (λ (ys : Unit {0} × Unit {0}). ‵ (lasts numbers.ended tt (told r) ys) ⊛ raw (fact 𝓤 (a ≡ leaderNumbers r)))) (id⊢ 𝓤 _) $ pick ! (λ ys.
         split ! $ move ! (1 ∷ []) $ heard ! (a ≡ leaderNumbers r) (λ n. drop ! $ split ! $ drop ! $ peeks ! N.the-row (Is N.the-row) (shows 𝓤 H A N.the-row) a (w ∷ []) (λ its.
         -- [what the numbers own; the token; the record's last value; true; _3; …]
@@ -129,7 +129,7 @@ module _ {M : Type 1} (𝓤 : URA M) (H : Heap 𝓤) (A : Atoms 𝓤) (W : Given
         keep ! (0 ∷ 1 ∷ 2 ∷ []) $ by ! (exits r (zs .0) a w e n)))))))))))))))
 
 module _ {M : Type 1} (𝓤 : URA M) (H : Heap 𝓤) (A : Atoms 𝓤) (W : Given 𝓤 H A) (mem : Memory → SProp 𝓤) (run : Routine → Fun 𝓤) where
-  walks : (C : Calls 𝓤 H) (Λ : Loops 𝓤 H) → FmC 𝓤 H (W .laws) C → Triple 𝓤 (C #entry·leader) (Entry 𝓤 H A mem run) → Triple 𝓤 (C #numbers·leader-numbers) (Numbers 𝓤 H A mem run)
+  walks : (C : Calls 𝓤 H) (Λ : Loops 𝓤 H) → FmC 𝓤 H (W .laws) C → Triple 𝓤 (C #lent-calls·leader) (Entry 𝓤 H A mem run) → Triple 𝓤 (C #c-answers·leader-numbers) (Numbers 𝓤 H A mem run)
       → Walks 𝓤 H A f.ended stayed (WpFn 𝓤 H C Λ code.function) (f.clauses 𝓤 H A mem run)
   walks C Λ fm entry-known numbers-known = walked 𝓤 H A f.ended stayed (f.clauses 𝓤 H A mem run) (WpFn 𝓤 H C Λ code.function)
       (λ κs. (ptr-vals, tt)) (λ κs. (mut-tells (named 0) (κs .0) T.the-row, tt))
@@ -139,8 +139,8 @@ module _ {M : Type 1} (𝓤 : URA M) (H : Heap 𝓤) (A : Atoms 𝓤) (W : Given
   goes : AllGo 𝓤 H A W 1 (f.signature .params) (f.ended .kept) stayed
   goes = (goes-gave-ref 𝓤 H A W 1 0 tt (plain (λ _. T.the-row)), tt)
 
-meets : {M : Type 1} (𝓤 : URA M) (H : Heap 𝓤) (A : Atoms 𝓤) → Given 𝓤 H A → (mem : Memory → SProp 𝓤) (run : Routine → Fun 𝓤) (𝓣 : Tables 𝓤 H) → Triple 𝓤 (𝓣 .C #entry·leader) (Entry 𝓤 H A mem run)
-    → Triple 𝓤 (𝓣 .C #numbers·leader-numbers) (Numbers 𝓤 H A mem run) → Meets 𝓤 H A f.signature (WpFn 𝓤 H (𝓣 .C) (𝓣 .Λ) code.function) (f.spec 𝓤 H A mem run)
+meets : {M : Type 1} (𝓤 : URA M) (H : Heap 𝓤) (A : Atoms 𝓤) → Given 𝓤 H A → (mem : Memory → SProp 𝓤) (run : Routine → Fun 𝓤) (𝓣 : Tables 𝓤 H) → Triple 𝓤 (𝓣 .C #lent-calls·leader) (Entry 𝓤 H A mem run)
+    → Triple 𝓤 (𝓣 .C #c-answers·leader-numbers) (Numbers 𝓤 H A mem run) → Meets 𝓤 H A f.signature (WpFn 𝓤 H (𝓣 .C) (𝓣 .Λ) code.function) (f.spec 𝓤 H A mem run)
 meets 𝓤 H A W mem run 𝓣 entry-known numbers-known = walk-meets 𝓤 H A f.ended stayed W (goes 𝓤 H A W mem run) (f.clauses 𝓤 H A mem run) (WpFn 𝓤 H (𝓣 .C) (𝓣 .Λ) code.function) (WpFn-mono 𝓤 H (W .laws) 𝓣 code.function)
     (walks 𝓤 H A W mem run (𝓣 .C) (𝓣 .Λ) (fmOf 𝓤 H (W .laws) 𝓣) entry-known numbers-known)
 
@@ -150,5 +150,5 @@ roster-leader-spec 𝓤 H 𝓜 𝓖 𝓡 =
     entered 𝓤 H (tripleOf 𝓤 H (𝓖 .A) f.signature (f.spec 𝓤 H (𝓖 .A) (𝓜 .mem) (𝓡 .run)))
     (tables 𝓤 H 𝓜 𝓡 code.env .C) (tables 𝓤 H 𝓜 𝓡 code.env .Λ) #roster-leader code.function (code.unfolded 𝓤 H 𝓜 𝓡)
     (meets 𝓤 H (𝓖 .A) (givenOf 𝓤 H 𝓜 𝓖) (𝓜 .mem) (𝓡 .run) (tablesOf 𝓤 H 𝓜 (tables 𝓤 H 𝓜 𝓡 code.env))
-    (cited 𝓤 H (Entry 𝓤 H (𝓖 .A) (𝓜 .mem) (𝓡 .run)) 𝓜 𝓡 code.env #entry·leader entry-def.routine code.calls-entry·leader (entry-thm.met 𝓤 H 𝓜 𝓖 𝓡))
-    (cited 𝓤 H (Numbers 𝓤 H (𝓖 .A) (𝓜 .mem) (𝓡 .run)) 𝓜 𝓡 code.env #numbers·leader-numbers numbers-def.routine code.calls-numbers·leader-numbers (numbers-thm.met 𝓤 H 𝓜 𝓖 𝓡)))
+    (cited 𝓤 H (Entry 𝓤 H (𝓖 .A) (𝓜 .mem) (𝓡 .run)) 𝓜 𝓡 code.env #lent-calls·leader entry-def.routine code.calls-lent-calls·leader (entry-thm.met 𝓤 H 𝓜 𝓖 𝓡))
+    (cited 𝓤 H (Numbers 𝓤 H (𝓖 .A) (𝓜 .mem) (𝓡 .run)) 𝓜 𝓡 code.env #c-answers·leader-numbers numbers-def.routine code.calls-c-answers·leader-numbers (numbers-thm.met 𝓤 H 𝓜 𝓖 𝓡)))

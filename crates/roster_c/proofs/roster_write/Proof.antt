@@ -1,6 +1,6 @@
 -- `roster_c::roster_write` meets its contract: the writer's answer becomes numbers.
 use mathlib.Core.Path.{ap, _∙_}
-use Rattle.numbers.specs.Numbers.{writtenNumbers}
+use Rattle.c_answers.specs.Numbers.{writtenNumbers}
 use borrow.Author.Needs.{needs}
 use Rattle.roster_c.proofs.roster_write.Statement.{statement}
 use Rattle.roster_c.proofs.roster_write.Tie as tie

@@ -13,7 +13,7 @@ use Rattle.text.specs.Hex.Range.{bytes-below}
 use Rattle.lines.specs.declared.event.Line.{Line}
 use Rattle.lines.specs.declared.event.Line.the-variants.{Start, Carry, Forge, Wrong}
 use Rattle.lines.specs.Lines.{isBase, twoBases, eventLine}
-use Rattle.lines.specs.Lines.Laws.{base-range, two-range}
+use Rattle.lines.specs.Lines.Laws.{net-base-range, two-range}
 use Rattle.lines.specs.Lines.Told.{EventTold, event-told}
 use Rattle.protocol.specs.Net.{Net, Pair, Event, starts, carry, forge, eventRefusal, happens, run}
 use Rattle.protocol.specs.Agreement.{BaseOf, Proper, AllProper}
@@ -32,7 +32,7 @@ proper-more n (x ∷ es) e p q = (p .0, proper-more n es e (p .1) q)
 
 -- ---- the events of lines are proper
 base-of : (n b : ℕ) → isBase n b ≡ true → BaseOf n b
-base-of n b e = let p = base-range n b e in record { least = p .0; most = p .1 }
+base-of n b e = let p = net-base-range n b e in record { least = p .0; most = p .1 }
 
 pub proper-start : (n b room : ℕ) → isBase n b ≡ true → Proper n (starts b room)
 proper-start n b room e = base-of n b e

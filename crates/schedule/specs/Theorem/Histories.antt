@@ -1,7 +1,7 @@
 -- What agreement says of a history by the states of its bases, as a report prints them: a base whose state says so has stopped, and one that is not idle was
 -- started.
-use Prim.Native.Nat.{ℕ, suc, _≤_, _<_}
-use mathlib.Core.Path.{_≡_, refl, sym, ap, _∙_, subst}
+use Prim.Native.Nat.{ℕ, _≤_}
+use mathlib.Core.Path.{_≡_, refl, sym, ap, _∙_}
 use mathlib.Core.Logic.{_⊎_, inl, inr}
 use mathlib.Core.Bool.{Bool, true, false}
 use mathlib.Core.List.{List, [], _∷_}
@@ -16,12 +16,9 @@ use Rattle.protocol.specs.Record.{finalList}
 use Rattle.protocol.specs.Sound.{idle}
 use Rattle.protocol.specs.Sound.Laws.{record-passed, sound-parts}
 use Rattle.protocol.specs.Steps.{leaderOf}
-use Rattle.protocol.specs.Net.{Net, Pair, Event, at, replaced, refusal, settled, happens, run, started, saysCorrect, hasStopped, waiting, leaderNamed}
+use Rattle.protocol.specs.Net.{Net, Pair, Event, at, replaced, refusal, settled, happens, run, started, hasStopped, waiting, leaderNamed}
 use Rattle.protocol.specs.Agreement.{BaseOf, Setting, Fresh, AllProper, trueIdentifiers}
-use Rattle.protocol.specs.Agreement.Inner.Begins.{seen}
-use Rattle.protocol.specs.Agreement.Observers.{view}
-use Rattle.protocol.specs.Agreement.Outer.Frames.{said-says}
-use Rattle.protocol.specs.Agreement.Outer.Beginning.{each-base, follows-run, stands-run}
+use Rattle.protocol.specs.Agreement.Cases.{prime-or-secondary}
 use Rattle.protocol.specs.Agreement.Theorem.{agreement}
 use Rattle.protocol.specs.Agreement.Besides.{orderly}
 
@@ -57,20 +54,12 @@ module _ (n t : ℕ) (faulty : List Pair) (W : Net) (S : Setting n t faulty) (F 
       cases false e =
           absurd (omega (arith, ap (λ (c : Base). c .state) (not-started faulty W es b e), eqb-true (W .base b .state) 0 (unfold idle in F .idle b B)))
 
-  stopped-at : (x : ℕ) → x < n → 2 ≤ end .base (suc x) .state → hasStopped end (suc x) ≡ true
-  unfolding hasStopped seen view
-  stopped-at x l h =
-      let fo = follows-run n t faulty W S F es p in
-      let st = stands-run n t faulty W S F es p in
-      let state = subst (λ (c : Base). 2 ≤ c .state) (fo .shows .base x l) h in
-      ap saysCorrect (fo .shows .log x l) ∙ said-says n (S .size) (λ m k. st .valid x m l k) (st .invariant .stop-told x l state)
+  pub state-most : (b : ℕ) → BaseOf n b → end .base b .state ≤ 3
+  state-most b B = sound-parts (end .base b) (record-passed (end .base b) (orderly n t faulty W es S F p .records b B) .sound) .state
 
   -- a base whose state says so has broadcast a Correct-Final
   pub stopped-by : (b : ℕ) → BaseOf n b → 2 ≤ end .base b .state → hasStopped end b ≡ true
-  stopped-by b B h = each-base n (λ c. 2 ≤ end .base c .state → hasStopped end c ≡ true) stopped-at b B h
-
-  pub state-most : (b : ℕ) → BaseOf n b → end .base b .state ≤ 3
-  state-most b B = sound-parts (end .base b) (record-passed (end .base b) (orderly n t faulty W es S F p .records b B) .sound) .state
+  stopped-by b B h = orderly n t faulty W es S F p .stops b B .1 (prime-or-secondary (end .base b .state) h (state-most b B))
 
   pub final-by : (b : ℕ) → BaseOf n b → 2 ≤ end .base b .state → finalList (end .base b) ≡ sort (trueIdentifiers n W)
   final-by b B h = agreement n t faulty W es S F p .final b B (stopped-by b B h)

@@ -32,9 +32,11 @@ pub digits-close : (s : List ℕ) (i v : ℕ) → i < length s → isDigit (getD
 unfolding digitsFrom
 digits-close s i v h e = ap (λ (l : List ℕ). digitsFrom l v i) (drop-one s i h) ∙ choose-no _ _ e
 
-pub digits-over : (s : List ℕ) (i v w : ℕ) → i < length s → isDigit (getD s i 0) ≡ true → w ≡ withDigit v (getD s i 0) → mostNumber < w → digitsFrom (drop i s) v i ≡ Bad
+pub digits-over : (s : List ℕ) (i v w : ℕ) → i < length s → isDigit (getD s i 0) ≡ true → w ≡ withDigit v (getD s i 0) → mostNumber < w
+    → digitsFrom (drop i s) v i ≡ Bad
 unfolding digitsFrom
-digits-over s i v w h e p more = ap (λ (l : List ℕ). digitsFrom l v i) (drop-one s i h) ∙ choose-yes _ _ e ∙ choose-yes _ _ (rw p at (lt-ltb _ _ more))
+digits-over s i v w h e p more =
+    ap (λ (l : List ℕ). digitsFrom l v i) (drop-one s i h) ∙ choose-yes _ _ e ∙ choose-yes _ _ (rw p at (lt-ltb _ _ more))
 
 pub digits-more : (s : List ℕ) (i v w : ℕ) → i < length s → isDigit (getD s i 0) ≡ true → w ≡ withDigit v (getD s i 0) → w ≤ mostNumber
     → digitsFrom (drop i s) v i ≡ digitsFrom (drop (i + 1) s) w (i + 1)
@@ -54,7 +56,8 @@ number-none s i h e = ap (λ (l : List ℕ). numberFrom l i) (drop-one s i h) �
 
 pub number-zero : (s : List ℕ) (i : ℕ) → i < length s → getD s i 0 ≡ 48 → numberAt s i ≡ Value 0 (i + 1)
 unfolding numberAt numberFrom isDigit and
-number-zero s i h e = ap (λ (l : List ℕ). numberFrom l i) (drop-one s i h) ∙ ap (λ (b : ℕ). numberFrom (b ∷ drop (i + 1) s) i) e ∙ (unfold choose in refl)
+number-zero s i h e =
+    ap (λ (l : List ℕ). numberFrom l i) (drop-one s i h) ∙ ap (λ (b : ℕ). numberFrom (b ∷ drop (i + 1) s) i) e ∙ (unfold choose in refl)
 
 pub number-digits : (s : List ℕ) (i v : ℕ) → i < length s → isDigit (getD s i 0) ≡ true → (getD s i 0 ≡ 48 → ⊥) → v ≡ getD s i 0 - 48
     → numberAt s i ≡ digitsFrom (drop (i + 1) s) v (i + 1)

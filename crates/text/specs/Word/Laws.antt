@@ -25,7 +25,8 @@ pub word-more : (w s : List ℕ) (j i : ℕ) → j < length w → i < length s �
 unfolding wordFrom
 word-more w s j i hj hi e = ap₂ (λ (l r : List ℕ). wordFrom l r i) (drop-one w j hj) (drop-one s i hi) ∙ choose-yes _ _ (eq-eqb _ _ e)
 
-pub word-other : (w s : List ℕ) (j i : ℕ) → j < length w → i < length s → (getD s i 0 ≡ getD w j 0 → ⊥) → wordFrom (drop j w) (drop i s) i ≡ Other
+pub word-other : (w s : List ℕ) (j i : ℕ) → j < length w → i < length s → (getD s i 0 ≡ getD w j 0 → ⊥)
+    → wordFrom (drop j w) (drop i s) i ≡ Other
 unfolding wordFrom
 word-other w s j i hj hi e = ap₂ (λ (l r : List ℕ). wordFrom l r i) (drop-one w j hj) (drop-one s i hi) ∙ choose-no _ _ (ne-eqb _ _ e)
 

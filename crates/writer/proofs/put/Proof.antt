@@ -1,36 +1,53 @@
--- `writer::put` meets its contract: the two tests decide whether the frame fits, and put_frame writes it.
-use mathlib.Core.Path.{refl}
-use borrow.Author.Needs.{needs}
-use Rattle.writer.specs.Writing.Laws.{fits-room, fits-many, fits-short}
-use Rattle.writer.specs.Writing.{putLength, putOutput}
+-- `writer::put` meets its contract: a frame that fits meets what put_frame asks, and no other is written.
+use mathlib.Core.Path.{refl, sym, _∙_}
+use native.Mathlib.Omega.{arith}
+use borrow.Author.Tests.{not-true, not-false}
 use Rattle.lists.specs.Choice.Laws.{chosen-yes, chosen-no}
+use Rattle.writer.specs.Writing.{putLength, putOutput}
+use Rattle.writer.specs.Writing.Laws.{fits-asks}
+use borrow.Author.Needs.{needs}
 use Rattle.writer.proofs.put.Statement.{statement}
 use Rattle.writer.proofs.put.Tie as tie
 
+frame-fits-requires : tie.Need-frame-fits-requires
+frame-fits-requires c κs = search needs
+
 returns : tie.Need-returns
 unfolding putLength putOutput
-returns c = let e = fits-many _ _ (c .if1 .taken) in (chosen-no _ e refl, chosen-no _ e refl)
+returns c =
+    let e = sym (c .before .frame-fits .ensures) ∙ not-true _ (c .if1 .taken) in
+    (chosen-no _ e refl, chosen-no _ e refl)
 
-mul-if2 : tie.Need-mul-if2
-mul-if2 c = search needs
-
-add-if2 : tie.Need-add-if2
-add-if2 c = search needs
-
-returns-2 : tie.Need-returns-2
-unfolding putLength putOutput
-returns-2 c = let e = fits-short _ (c .if2 .taken) in (chosen-no _ e refl, chosen-no _ e refl)
+length-of-requires : tie.Need-length-of-requires
+length-of-requires c κs = search needs
 
 put-frame-requires : tie.Need-put-frame-requires
-put-frame-requires c κs = search needs
+put-frame-requires c κs =
+    let frame-fits = c .before .before .before .frame-fits in
+    let if1 = c .before .before .if1 in
+    let a = c .before .before .before .before .before .before .args in
+    fits-asks (a .n) (a .kind) _ _ _ (omega arith) (c .before .length-of .ensures) (sym (frame-fits .ensures) ∙ not-false _ (if1 .left))
 
 same-length : tie.Need-same-length
 same-length c = search needs
 
-returns-3 : tie.Need-returns-3
+returns-2 : tie.Need-returns-2
 unfolding putLength putOutput
-returns-3 c = let e = fits-room (c .before .before .before .before .before .if1 .left) (c .before .before .before .before .if2 .left) in (chosen-yes _ e (c .before .before .put-frame .ensures .0), chosen-yes _ e (c .before .before .put-frame .ensures .1))
+returns-2 c =
+    let frame-fits = c .before .before .before .before .before .before .frame-fits in
+    let if1 = c .before .before .before .before .before .if1 in
+    let length-of = c .before .before .before .before .length-of in
+    let put-frame = c .before .before .put-frame in
+    let e = sym (frame-fits .ensures) ∙ not-false _ (if1 .left) in
+    (chosen-yes _ e (length-of .ensures), chosen-yes _ e (put-frame .ensures))
 
 pub put-spec : {M : Type 1} → statement M
 put-spec =
-    tie.close (tie.spec returns mul-if2 add-if2 returns-2 put-frame-requires same-length returns-3)
+    tie.close
+    (tie.spec
+    frame-fits-requires
+    returns
+    length-of-requires
+    put-frame-requires
+    same-length
+    returns-2)

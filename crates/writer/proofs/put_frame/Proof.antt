@@ -3,16 +3,16 @@ use Prim.Native.Nat.{_≤_, _-_}
 use mathlib.Core.Path.{_≡_, refl}
 use native.Mathlib.Omega.{arith}
 use lib.ListN.{length, take}
-use Rattle.writer.proofs.Stores.{next-stored, frame-stored}
 use Rattle.frame.specs.Encoding.{body, over}
+use Rattle.writer.proofs.Stores.{next-stored, frame-stored}
 use Rattle.writer.proofs.put_frame.Statement.{statement}
 use Rattle.writer.proofs.put_frame.Tie as tie
 
 abbrev Inv-loop : tie.InvT-loop
-Inv-loop kind ids out₀ count i₀ out i = (i ≤ count) × ((length out ≡ length out₀) × (out ≡ over (body (take i ids)) out₀))
+Inv-loop kind size ids out₀ count i₀ out i = (i ≤ count) × ((length out ≡ length out₀) × (out ≡ over (body (take i ids)) out₀))
 
 abbrev μ-loop : tie.MeasureT-loop
-μ-loop kind ids out₀ count i₀ out i = count - i
+μ-loop kind size ids out₀ count i₀ out i = count - i
 
 loop-holds : tie.Need-loop-holds Inv-loop μ-loop
 unfolding body over
@@ -37,22 +37,18 @@ loop-less : tie.Need-loop-less Inv-loop μ-loop
 loop-less c = omega arith
 
 loop-again : tie.Need-loop-again Inv-loop μ-loop
-loop-again c = let s = c .before .before .before .before .before .before .before .before .before .args in let l = c .before .before .before .before .before .before .loop in (
-  omega arith,
-  (
-    omega (arith, c .before .before .put-identifier .kept .0),
-    next-stored (s .ids .now) (s .out .now) (l .out) _ (l .i) (omega arith) (l .inv .1 .1) (c .before .before .put-identifier .ensures),
-  ),
-)
+loop-again c =
+    let s = c .before .before .before .before .before .before .before .before .before .args in
+    let l = c .before .before .before .before .before .before .loop in (
+      omega arith,
+      (
+        omega (arith, c .before .before .put-identifier .kept .0),
+        next-stored (s .ids .now) (s .out .now) (l .out) _ (l .i) (omega arith) (l .inv .1 .1) (c .before .before .put-identifier .ensures),
+      ),
+    )
 
-mul-back : tie.Need-mul-back Inv-loop μ-loop
-mul-back c = omega arith
-
-add-back : tie.Need-add-back Inv-loop μ-loop
-add-back c = omega arith
-
-mul-put-four : tie.Need-mul-put-four Inv-loop μ-loop
-mul-put-four c = omega arith
+sub-put-four : tie.Need-sub-put-four Inv-loop μ-loop
+sub-put-four c = omega arith
 
 cast-put-four : tie.Need-cast-put-four Inv-loop μ-loop
 cast-put-four c = omega arith
@@ -70,8 +66,12 @@ same-length : tie.Need-same-length Inv-loop μ-loop
 same-length c = omega (arith, c .before .before .put-four .kept .0)
 
 returns : tie.Need-returns Inv-loop μ-loop
-returns c = let s = c .before .before .before .before .before .before .before .before .args in let l = c .before .before .before .before .before .loop in
-    (refl, frame-stored (s .kind) (s .ids .now) (s .out .now) (l .out) _ (l .i) (omega arith) (l .inv .1 .1) (c .before .before .put-four .ensures))
+returns c =
+    let s = c .before .before .before .before .before .before .before .before in
+    let a = s .args in
+    let l = c .before .before .before .before .before .loop in
+    frame-stored (a .kind) (a .size) (a .ids .now) (a .out .now) (l .out) _ (l .i) (s .pre .1 .0) (omega arith) (l .inv .1 .1)
+    (c .before .before .put-four .ensures)
 
 pub put-frame-spec : {M : Type 1} → statement M
 put-frame-spec =
@@ -87,9 +87,7 @@ put-frame-spec =
     add-i
     loop-less
     loop-again
-    mul-back
-    add-back
-    mul-put-four
+    sub-put-four
     cast-put-four
     cast-put-four-2
     cast-put-four-3

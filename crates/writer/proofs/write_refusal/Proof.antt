@@ -1,10 +1,9 @@
 -- `writer::write_refusal` meets its contract: a law of the definition for each test that led to a return.
 use mathlib.Core.Path.{sym, _∙_}
 use native.Mathlib.Omega.{arith}
-use borrow.Author.Needs.{needs}
-use Rattle.writer.specs.Writing.Laws.{write-outside, write-unknown, write-short, write-count, write-list}
-use Rattle.frame.specs.Message.Laws.{shape-unknown, shape-known}
 use Rattle.limits.specs.Refusals.Laws.{net-passed}
+use Rattle.writer.specs.Writing.Laws.{write-outside, write-short, write-kind, write-list}
+use borrow.Author.Needs.{needs}
 use Rattle.writer.proofs.write_refusal.Statement.{statement}
 use Rattle.writer.proofs.write_refusal.Tie as tie
 
@@ -12,40 +11,56 @@ net-refusal-requires : tie.Need-net-refusal-requires
 net-refusal-requires c κs = search needs
 
 returns : tie.Need-returns
-returns c = let a = c .before .before .before .args in let e = c .before .net-refusal .ensures in e ∙ sym (write-outside (a .n) (a .kind) (a .ids .now) (a .room) (λ z. c .if1 .taken (e ∙ z)))
+returns c =
+    let a = c .before .before .before .args in
+    let e = c .before .net-refusal .ensures in
+    e ∙ sym (write-outside (a .n) (a .kind) (a .ids .now) (a .room) (λ z. c .if1 .taken (e ∙ z)))
 
-cast-shape-of : tie.Need-cast-shape-of
-cast-shape-of c = omega (arith, net-passed (c .before .before .before .args .n) (sym (c .before .net-refusal .ensures) ∙ c .if1 .left) .most)
+cast-length-of : tie.Need-cast-length-of
+cast-length-of c =
+    let a = c .before .before .before .args in
+    omega (arith, net-passed (a .n) (sym (c .before .net-refusal .ensures) ∙ c .if1 .left) .most)
 
-shape-of-requires : tie.Need-shape-of-requires
-shape-of-requires c κs = search needs
-
-enum-known-count : tie.Need-enum-known-count
-enum-known-count c = search needs
-
-enum-told : tie.Need-enum-told
-enum-told c = search needs
+length-of-requires : tie.Need-length-of-requires
+length-of-requires c κs = search needs
 
 returns-2 : tie.Need-returns-2
-returns-2 c = let a = c .before .before .before .before .before .before .args in sym (write-unknown (a .n) (a .kind) (a .ids .now) (a .room) (sym (c .before .before .before .before .net-refusal .ensures) ∙ c .before .before .before .if1 .left) (shape-unknown (a .kind) (a .n) (sym (c .before .before .shape-of .ensures) ∙ c .enum-told .given .1)))
+returns-2 c =
+    let a = c .before .before .before .before .before .args in
+    let z = sym (c .before .before .before .net-refusal .ensures) ∙ c .before .before .if1 .left in
+    sym (write-short (a .n) (a .kind) (a .ids .now) (a .room) z (omega (arith, c .before .length-of .ensures)))
+
+cast-kind-refusal : tie.Need-cast-kind-refusal
+cast-kind-refusal c =
+    let z = sym (c .before .before .before .net-refusal .ensures) ∙ c .before .before .if1 .left in
+    omega (arith, net-passed (c .before .before .before .before .before .args .n) z .most)
+
+kind-refusal-requires : tie.Need-kind-refusal-requires
+kind-refusal-requires c κs = search needs
 
 returns-3 : tie.Need-returns-3
-returns-3 c = let a = c .before .before .before .before .before .before .before .before .args in
-    let s = shape-known (a .kind) (a .n) (sym (c .before .before .before .before .shape-of .ensures) ∙ c .before .before .count .given .1) in
-    sym (write-short (a .n) (a .kind) (a .ids .now) (a .room) (sym (c .before .before .before .before .before .before .net-refusal .ensures) ∙ c .before .before .before .before .before .if1 .left) (s .0) (omega (arith, s .1 .1)))
-
-returns-4 : tie.Need-returns-4
-returns-4 c = let a = c .before .before .before .before .before .before .before .before .before .args in
-    let s = shape-known (a .kind) (a .n) (sym (c .before .before .before .before .before .shape-of .ensures) ∙ c .before .before .before .count .given .1) in
-    sym (write-count (a .n) (a .kind) (a .ids .now) (a .room) (sym (c .before .before .before .before .before .before .before .net-refusal .ensures) ∙ c .before .before .before .before .before .before .if1 .left) (s .0) (omega (arith, s .1 .1)) (λ e. c .if3 .taken (e ∙ sym (s .1 .0))))
+returns-3 c =
+    let net-refusal = c .before .before .before .before .before .net-refusal in
+    let if1 = c .before .before .before .before .if1 in
+    let length-of = c .before .before .before .length-of in
+    let a = c .before .before .before .before .before .before .before .args in
+    let z = sym (net-refusal .ensures) ∙ if1 .left in
+    let e = c .before .kind-refusal .ensures in
+    e ∙ sym (write-kind (a .n) (a .kind) (a .ids .now) (a .room) z (omega (arith, length-of .ensures)) (λ q. c .if3 .taken (e ∙ q)))
 
 list-refusal-requires : tie.Need-list-refusal-requires
 list-refusal-requires c κs = search needs
 
-returns-5 : tie.Need-returns-5
-returns-5 c = let a = c .before .before .before .before .before .before .before .before .before .before .args in
-    let s = shape-known (a .kind) (a .n) (sym (c .before .before .before .before .before .before .shape-of .ensures) ∙ c .before .before .before .before .count .given .1) in
-    c .list-refusal .ensures ∙ sym (write-list (a .n) (a .kind) (a .ids .now) (a .room) (sym (c .before .before .before .before .before .before .before .before .net-refusal .ensures) ∙ c .before .before .before .before .before .before .before .if1 .left) (s .0) (omega (arith, s .1 .1)) (c .before .if3 .left ∙ s .1 .0))
+returns-4 : tie.Need-returns-4
+returns-4 c =
+    let net-refusal = c .before .before .before .before .before .before .net-refusal in
+    let if1 = c .before .before .before .before .before .if1 in
+    let length-of = c .before .before .before .before .length-of in
+    let kind-refusal = c .before .before .kind-refusal in
+    let a = c .before .before .before .before .before .before .before .before .args in
+    let z = sym (net-refusal .ensures) ∙ if1 .left in
+    let e = sym (kind-refusal .ensures) ∙ c .before .if3 .left in
+    c .list-refusal .ensures ∙ sym (write-list (a .n) (a .kind) (a .ids .now) (a .room) z (omega (arith, length-of .ensures)) e)
 
 pub write-refusal-spec : {M : Type 1} → statement M
 write-refusal-spec =
@@ -53,11 +68,11 @@ write-refusal-spec =
     (tie.spec
     net-refusal-requires
     returns
-    cast-shape-of shape-of-requires
-    enum-known-count
-    enum-told
+    cast-length-of
+    length-of-requires
     returns-2
+    cast-kind-refusal
+    kind-refusal-requires
     returns-3
-    returns-4
     list-refusal-requires
-    returns-5)
+    returns-4)

@@ -1,52 +1,84 @@
--- Which number a write is turned down by, test by test, and whether frames fit.
-use mathlib.Core.Path.{_≡_, refl, sym, ap, _∙_}
-use mathlib.Core.Bool.{Bool, true, false, not}
+-- Whether frames fit, which number a write is turned down by, test by test, and what one that is not turned down is.
+use mathlib.Core.Path.{_≡_, refl, sym, ap, ap₂, _∙_}
+use mathlib.Core.Bool.{Bool, true, false}
 use mathlib.Core.List.{List, _++_}
-use Prim.Native.Nat.{ℕ, _+_, _*_, _≤_, _<_}
+use Prim.Native.Nat.{ℕ, _*_, _-_, _≤_, _<_}
 use native.Mathlib.Omega.{arith}
-use borrow.Author.Tests.{lt-ltb, le-ltb, le-leb, lt-leb, eq-eqb, ne-eqb, ltb-false, eqb-true, not-false}
-use lib.Dec.{leb}
+use borrow.Author.Tests.{lt-ltb, le-ltb, le-leb, eq-eqb, ltb-false, leb-true, eqb-true}
 use lib.ListN.{length}
 use Rattle.limits.specs.Limits.{mostBases, frameBytes}
-use Rattle.limits.specs.Refusals.{netRefusal, NetSize}
+use Rattle.limits.specs.Refusals.{netRefusal}
 use Rattle.limits.specs.Refusals.Laws.{net-passed}
-use Rattle.lists.specs.Choice.{choose, and}
-use Rattle.lists.specs.Choice.Laws.{choose-yes, and-no, passed, first-none, first-given, first-passed}
+use Rattle.lists.specs.Choice.{first}
+use Rattle.lists.specs.Choice.Laws.{choose-yes, choose-no, and-true, and-both, and-fails, and-goes-on, passed, first-none, first-given}
+use Rattle.lists.specs.Choice.Laws.{first-passed}
 use Rattle.frame.specs.Encoding.{frameOf, over}
-use Rattle.frame.specs.Message.{known, expected}
-use Rattle.frame.specs.Message.Laws.{expected-range}
-use Rattle.frame.specs.Reading.{listRefusal}
-use Rattle.writer.specs.Writing.{fits, putLength, putOutput, twoLength, twoOutput, lengthOf, writeRefusal}
+use Rattle.frame.specs.Message.{known, expected, lengthOf}
+use Rattle.frame.specs.Reading.{kindRefusal, listRefusal}
+use Rattle.frame.specs.Reading.Laws.{kind-passed, kind-size, kind-few}
+use Rattle.writer.specs.Writing.{frameFits, putLength, putOutput, twoFit, twoLengths, twoOutput, writeRefusal}
 
--- ---- whether frames fit
-pub fits-room : {count bytes room : ℕ} → count ≤ mostBases → bytes ≤ room → fits count bytes room ≡ true
-unfolding fits and
-fits-room {count} {bytes} {room} h k = simp (le-leb count mostBases h, le-leb bytes room k)
+-- ---- whether a frame fits
+pub fits : (n kind count room : ℕ) → kindRefusal n kind count ≡ 0 → lengthOf kind n ≤ room → frameFits n kind count room ≡ true
+unfolding frameFits
+fits n kind count room e h = and-both (eq-eqb (kindRefusal n kind count) 0 e) (le-leb (lengthOf kind n) room h)
 
-pub fits-many : {count : ℕ} (bytes room : ℕ) → mostBases < count → fits count bytes room ≡ false
-unfolding fits and
-fits-many {count} bytes room h = simp (lt-leb count mostBases h)
+pub fits-passed : (n kind count room : ℕ) → frameFits n kind count room ≡ true → (kindRefusal n kind count ≡ 0) × (lengthOf kind n ≤ room)
+unfolding frameFits
+fits-passed n kind count room e =
+    let p = and-true _ _ e in
+    (eqb-true (kindRefusal n kind count) 0 (p .0), leb-true (lengthOf kind n) room (p .1))
 
-pub fits-short : (count : ℕ) {bytes room : ℕ} → room < bytes → fits count bytes room ≡ false
-unfolding fits
-fits-short count {bytes} {room} h = rw (lt-leb bytes room h) (and-no (leb count mostBases))
+-- what writing a frame that fits asks: a count that fits in a byte, the frame's size, and room for it
+pub fits-asks : (n kind count room size : ℕ) → n < 256 → size ≡ lengthOf kind n → frameFits n kind count room ≡ true
+    → (count < 256) × ((size ≡ frameBytes count) × (size ≤ room))
+fits-asks n kind count room size small e f =
+    let p = fits-passed n kind count room f in
+    (omega (arith, kind-few n kind count 255 (p .0) (omega arith) (omega arith)), (e ∙ kind-size n kind count (p .0), omega (arith, p .1)))
 
--- a frame that fits is written
-pub put-length : (count room : ℕ) → count ≤ mostBases → frameBytes count ≤ room → putLength count room ≡ frameBytes count
-unfolding putLength
-put-length count room h k = choose-yes (frameBytes count) 0 (fits-room h k)
+-- two frames fit if the second fits behind the first, and not where the first does not
+pub two-fit : (n kind next count room front : ℕ) {t : Bool} → front ≡ lengthOf kind n
+    → frameFits n kind count room ≡ true → frameFits n next count (room - front) ≡ t → twoFit n kind next count room ≡ t
+unfolding twoFit
+two-fit n kind next count room front e p q = sym (and-goes-on p (sym q ∙ ap (λ (size : ℕ). frameFits n next count (room - size)) e))
 
-pub put-output : (kind : ℕ) (ids output : List ℕ) → length ids ≤ mostBases → frameBytes (length ids) ≤ length output → putOutput kind ids output ≡ over (frameOf kind ids) output
-unfolding putOutput
-put-output kind ids output h k = choose-yes (over (frameOf kind ids) output) output (fits-room h k)
+pub two-fail : (n kind next count room : ℕ) → frameFits n kind count room ≡ false → twoFit n kind next count room ≡ false
+unfolding twoFit
+two-fail n kind next count room e = sym (and-fails _ e)
 
-pub two-length : (count room : ℕ) → count ≤ mostBases → 2 * frameBytes count ≤ room → twoLength count room ≡ frameBytes count
-unfolding twoLength
-two-length count room h k = choose-yes (frameBytes count) 0 (fits-room h k)
+-- ---- frames that fit are written
+module _ (n kind : ℕ) (ids output : List ℕ) (e : kindRefusal n kind (length ids) ≡ 0) (h : frameBytes (length ids) ≤ length output) where
+  one-fits : frameFits n kind (length ids) (length output) ≡ true
+  one-fits = fits n kind (length ids) (length output) e (omega (arith, kind-size n kind (length ids) e))
 
-pub two-output : (kind next : ℕ) (ids output : List ℕ) → length ids ≤ mostBases → 2 * frameBytes (length ids) ≤ length output → twoOutput kind next ids output ≡ over (frameOf kind ids ++ frameOf next ids) output
-unfolding twoOutput
-two-output kind next ids output h k = choose-yes (over (frameOf kind ids ++ frameOf next ids) output) output (fits-room h k)
+  pub put-length : putLength n kind (length ids) (length output) ≡ frameBytes (length ids)
+  unfolding putLength
+  put-length = choose-yes (lengthOf kind n) 0 one-fits ∙ kind-size n kind (length ids) e
+
+  pub put-output : putOutput n kind ids output ≡ over (frameOf kind ids) output
+  unfolding putOutput
+  put-output = choose-yes (over (frameOf kind ids) output) output one-fits
+
+module _ (n kind next : ℕ) (ids output : List ℕ)
+    (e : kindRefusal n kind (length ids) ≡ 0) (f : kindRefusal n next (length ids) ≡ 0)
+    (h : 2 * frameBytes (length ids) ≤ length output) where
+  both-fit : twoFit n kind next (length ids) (length output) ≡ true
+  both-fit =
+      let front = kind-size n kind (length ids) e in
+      two-fit n kind next (length ids) (length output) (lengthOf kind n) refl
+      (fits n kind (length ids) (length output) e (omega (arith, front)))
+      (fits n next (length ids) (length output - lengthOf kind n) f (omega (arith, front, kind-size n next (length ids) f)))
+
+  pub put-two-lengths : twoLengths n kind next (length ids) (length output)
+      ≡ record { front = frameBytes (length ids); next = frameBytes (length ids) }
+  unfolding twoLengths
+  put-two-lengths =
+      choose-yes _ _ both-fit
+      ∙ ap₂ (λ (a b : ℕ). record { front = a; next = b }) (kind-size n kind (length ids) e) (kind-size n next (length ids) f)
+
+  pub put-two-output : twoOutput n kind next ids output ≡ over (frameOf kind ids ++ frameOf next ids) output
+  unfolding twoOutput
+  put-two-output = choose-yes _ _ both-fit
 
 -- ---- the number of a write
 module _ (n kind : ℕ) (ids : List ℕ) (room : ℕ) where
@@ -54,54 +86,43 @@ module _ (n kind : ℕ) (ids : List ℕ) (room : ℕ) where
   unfolding writeRefusal
   write-outside h = first-given _ h
 
-  pub write-unknown : netRefusal n ≡ 0 → known kind ≡ false → writeRefusal n kind ids room ≡ 8
-  unfolding writeRefusal lengthOf choose
-  write-unknown z k = first-none _ z ∙ simp (k, le-ltb room 0 (omega arith))
+  module _ (z : netRefusal n ≡ 0) where
+    pub write-short : room < lengthOf kind n → writeRefusal n kind ids room ≡ 6
+    unfolding writeRefusal
+    write-short h = first-none _ z ∙ choose-yes 6 _ (lt-ltb room (lengthOf kind n) h)
 
-  module _ (z : netRefusal n ≡ 0) (k : known kind ≡ true) where
-    pub length-known : lengthOf kind n ≡ frameBytes (expected kind n)
-    unfolding lengthOf
-    length-known = choose-yes (frameBytes (expected kind n)) 0 k
+    module _ (h : lengthOf kind n ≤ room) where
+      pub write-message : writeRefusal n kind ids room ≡ first (kindRefusal n kind (length ids)) (listRefusal ids)
+      unfolding writeRefusal
+      write-message = first-none _ z ∙ choose-no 6 _ (le-ltb room (lengthOf kind n) h)
 
-    pub write-short : room < frameBytes (expected kind n) → writeRefusal n kind ids room ≡ 6
-    unfolding writeRefusal choose
-    write-short h = first-none _ z ∙ simp (length-known, lt-ltb room (frameBytes (expected kind n)) h)
+      pub write-kind : (kindRefusal n kind (length ids) ≡ 0 → ⊥) → writeRefusal n kind ids room ≡ kindRefusal n kind (length ids)
+      write-kind e = write-message ∙ first-given _ e
 
-    pub write-count : frameBytes (expected kind n) ≤ room → (length ids ≡ expected kind n → ⊥) → writeRefusal n kind ids room ≡ 9
-    unfolding writeRefusal choose
-    write-count h e = first-none _ z ∙ simp (length-known, le-ltb room (frameBytes (expected kind n)) h, k, ne-eqb (length ids) (expected kind n) e)
-
-    pub write-list : frameBytes (expected kind n) ≤ room → length ids ≡ expected kind n → writeRefusal n kind ids room ≡ listRefusal ids
-    unfolding writeRefusal choose
-    write-list h e = first-none _ z ∙ simp (length-known, le-ltb room (frameBytes (expected kind n)) h, k, eq-eqb (length ids) (expected kind n) e)
+      pub write-list : kindRefusal n kind (length ids) ≡ 0 → writeRefusal n kind ids room ≡ listRefusal ids
+      write-list e = write-message ∙ first-none _ e
 
 -- ---- what a write that is not turned down writes
 pub record WritePassed (n kind : ℕ) (ids : List ℕ) (room : ℕ) : Type 0 where
-  pub size-of-net : NetSize n
   pub kind-known : known kind ≡ true
   pub count : length ids ≡ expected kind n
   pub list : listRefusal ids ≡ 0
-  pub few : length ids ≤ mostBases
+  pub few : n ≤ mostBases
   pub size : lengthOf kind n ≡ frameBytes (length ids)
-  pub fit : frameBytes (length ids) ≤ room
+  pub fit : frameFits n kind (length ids) room ≡ true
 
 pub write-passed : (n kind : ℕ) (ids : List ℕ) (room : ℕ) → writeRefusal n kind ids room ≡ 0 → WritePassed n kind ids room
 unfolding writeRefusal
 write-passed n kind ids room e =
     let p1 = first-passed (netRefusal n) _ e in
     let p6 = passed _ 5 _ (p1 .1) in
-    let p8 = passed _ 7 _ (p6 .1) in
-    let p9 = passed _ 8 _ (p8 .1) in
-    let N = net-passed n (p1 .0) in
-    let k = not-false (known kind) (p8 .0) in
-    let c = eqb-true (length ids) (expected kind n) (not-false _ (p9 .0)) in
-    let s = length-known n kind ids room (p1 .0) k ∙ ap frameBytes (sym c) in
+    let p8 = first-passed _ _ (p6 .1) in
+    let k = kind-passed n kind (length ids) (p8 .0) in
     record {
-      size-of-net = N;
-      kind-known = k;
-      count = c;
-      list = p9 .1;
-      few = omega (arith, c, expected-range kind n mostBases (omega (arith, N .least)) (N .most) .1);
-      size = s;
-      fit = omega (arith, ltb-false room (lengthOf kind n) (p6 .0), s);
+      kind-known = k .0;
+      count = k .1;
+      list = p8 .1;
+      few = net-passed n (p1 .0) .most;
+      size = kind-size n kind (length ids) (p8 .0);
+      fit = fits n kind (length ids) room (p8 .0) (ltb-false room (lengthOf kind n) (p6 .0));
     }

@@ -6,18 +6,16 @@ use mathlib.Core.List.{List}
 use native.Mathlib.Omega.{arith}
 use lib.Dec.{eqb}
 use lib.ListN.{length, drop}
-use Rattle.limits.specs.Limits.{frameBytes}
-use Rattle.lists.specs.Choice.{choose}
 use Rattle.lists.specs.Choice.Laws.{choose-ind}
 use Rattle.lists.specs.Lists.{nonzero, ascending, Below}
-use Rattle.frame.specs.Message.{kindOf, idsOf, expected, Valid}
+use Rattle.frame.specs.Message.{kindOf, idsOf, expected, lengthOf, Valid}
 use Rattle.frame.specs.Message.Laws.{known-is}
-use Rattle.frame.specs.Encoding.{frameOf, encode, over}
+use Rattle.frame.specs.Encoding.{frameOf, encode}
 use Rattle.frame.specs.Encoding.Laws.{length-frame, over-past}
 use Rattle.frame.specs.Reading.{message}
 use Rattle.frame.specs.Reading.Laws.{list-passed}
 use Rattle.frame.specs.Reading.Theorems.{parts-message}
-use Rattle.writer.specs.Writing.{writeRefusal, writeOutput, lengthOf}
+use Rattle.writer.specs.Writing.{writeRefusal, writeOutput}
 use Rattle.writer.specs.Writing.Laws.{write-passed}
 use borrow.Author.Tests.{eqb-true}
 
@@ -44,6 +42,8 @@ module _ (n kind : ℕ) (ids : List ℕ) (room : ℕ) (words : Below (2 ^ 32) id
 pub write-past : (n kind : ℕ) (ids output : List ℕ) → drop (lengthOf kind n) (writeOutput n kind ids output) ≡ drop (lengthOf kind n) output
 unfolding writeOutput
 write-past n kind ids output =
-    choose-ind (λ (after : List ℕ). drop (lengthOf kind n) after ≡ drop (lengthOf kind n) output) (eqb (writeRefusal n kind ids (length output)) 0)
-    (λ e. let P = write-passed n kind ids (length output) (eqb-true _ 0 e) in over-past (frameOf kind ids) output (lengthOf kind n) (omega (arith, length-frame kind ids, P .size)))
+    choose-ind (λ (after : List ℕ). drop (lengthOf kind n) after ≡ drop (lengthOf kind n) output)
+    (eqb (writeRefusal n kind ids (length output)) 0)
+    (λ e. let P = write-passed n kind ids (length output) (eqb-true _ 0 e) in over-past (frameOf kind ids) output (lengthOf kind n)
+    (omega (arith, length-frame kind ids, P .size)))
     (λ _. refl)

@@ -58,7 +58,8 @@ fn missing_announce(rng: &mut Rng, made: &Made) -> (usize, Message) {
 fn a_vote_for_a_held_list(rng: &mut Rng, made: &Made) -> (usize, Message) {
     let lists: Vec<&Vec<u32>> = made.base.links.iter().filter_map(|link| link.vector.as_ref().map(|(_, list)| list)).collect();
     let list = if lists.is_empty() { list_of(rng, made) } else { rng.pick(&lists).to_vec() };
-    let open: Vec<usize> = (1..made.base.n).filter(|&link| !matches!(made.base.links[link - 1].vector, Some((Vote::CorrectFinal, _)))).collect();
+    let open: Vec<usize> =
+        (1..made.base.n).filter(|&link| !matches!(made.base.links[link - 1].vector, Some((Vote::CorrectFinal, _)))).collect();
     let link = if open.is_empty() { rng.within(1, made.base.n - 1) } else { *rng.pick(&open) };
     let message = if rng.chance(2, 3) { Message::CorrectFinal(list) } else { Message::VerifyFinal(list) };
     (link, message)

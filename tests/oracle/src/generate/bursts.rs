@@ -2,7 +2,7 @@
 
 use crate::case::Case;
 use crate::generate::settings::{identifiers, net_size};
-use crate::limits::LONGEST_BURST;
+use crate::limits::{frame_bytes, FEWEST_BASES, LONGEST_BURST, MOST_BASES, SHORTEST_BURST};
 use crate::message::{Kind, Message};
 use crate::rng::Rng;
 
@@ -42,10 +42,10 @@ fn damage(rng: &mut Rng, burst: &mut Vec<u8>, frame: usize) {
         0 if length > 0 => burst[rng.below(length)] ^= 1 << rng.below(8),
         1 if length >= 4 => burst[length - 1 - rng.below(4)] = rng.byte(),
         2 if length >= 4 => burst[length - 4] = rng.below(7) as u8,
-        3 if length >= 3 => burst[length - 3] = rng.below(19) as u8,
+        3 if length >= 3 => burst[length - 3] = rng.below(MOST_BASES + 3) as u8,
         4 => drop(burst.drain(..rng.within(0, length.min(frame)))),
         5 => burst.truncate(rng.within(0, length)),
-        6 if length >= frame && frame >= 8 => {
+        6 if length >= frame && frame >= SHORTEST_BURST => {
             let at = length - frame + 4 * rng.below(frame / 4 - 1);
             let copy = length - frame + 4 * rng.below(frame / 4 - 1);
             let four: [u8; 4] = if rng.chance(1, 2) { [0; 4] } else { burst[copy..copy + 4].try_into().expect("four bytes") };
@@ -56,27 +56,27 @@ fn damage(rng: &mut Rng, burst: &mut Vec<u8>, frame: usize) {
 }
 
 pub fn read(rng: &mut Rng) -> Case {
-    let n = if rng.chance(1, 20) { *rng.pick(&[0, 1, 17, 18, 258, usize::MAX]) } else { net_size(rng) };
-    let frame_size = n.clamp(2, 16);
-    let burst = if rng.chance(1, 10) { rng.bytes(rng.clone().within(0, 140)) } else { damaged(rng, frame_size) };
+    let n = if rng.chance(1, 20) { *rng.pick(&[0, 1, MOST_BASES + 1, MOST_BASES + 2, 258, usize::MAX]) } else { net_size(rng) };
+    let frame_size = n.clamp(FEWEST_BASES, MOST_BASES);
+    let burst = if rng.chance(1, 10) { rng.bytes(rng.clone().within(0, LONGEST_BURST + 8)) } else { damaged(rng, frame_size) };
     Case::Read { n, burst, expect: None }
 }
 
-/// A burst of every length from 0 to 140 for every n and kind, with the trailer that its kind asks for.
+/// A burst of every length up to some that are too long, for every n and kind, with the trailer that its kind asks for.
 pub fn every_length(rng: &mut Rng) -> Vec<Case> {
     let mut cases = Vec::new();
-    for n in 2..=16 {
-        for length in 0..=140 {
+    for n in FEWEST_BASES..=MOST_BASES {
+        for length in 0..=LONGEST_BURST + 8 {
             for kind in 0..=5u8 {
                 let count = Kind::of(kind).map_or(1, |kind| kind.count(n));
                 let mut ids = identifiers(rng, count);
                 ids.sort_unstable();
                 let mut frame: Vec<u8> = ids.iter().flat_map(|id| id.to_be_bytes()).collect();
-                frame.extend([kind, count as u8, 0, 4 * count as u8 + 4]);
+                frame.extend([kind, count as u8, 0, frame_bytes(count) as u8]);
                 let short = length < frame.len();
                 let burst = if short { frame[frame.len() - length..].to_vec() } else { [rng.bytes(length - frame.len()), frame].concat() };
                 let expect = match () {
-                    _ if !(8..=132).contains(&length) => 7,
+                    _ if !(SHORTEST_BURST..=LONGEST_BURST).contains(&length) => 7,
                     _ if Kind::of(kind).is_none() => 8,
                     _ if short => 10,
                     _ => 0,
@@ -90,11 +90,11 @@ pub fn every_length(rng: &mut Rng) -> Vec<Case> {
 
 /// A frame to write, mostly fit, into an output that may be too short.
 pub fn write(rng: &mut Rng) -> Case {
-    let n = if rng.chance(1, 20) { *rng.pick(&[0, 1, 17, 258, usize::MAX]) } else { net_size(rng) };
+    let n = if rng.chance(1, 20) { *rng.pick(&[0, 1, MOST_BASES + 1, 258, usize::MAX]) } else { net_size(rng) };
     let kind = if rng.chance(1, 8) { rng.byte() } else { rng.within(1, 4) as u8 };
-    let mut count = Kind::of(kind).map_or(1, |kind| kind.count(n.clamp(2, 16)));
+    let mut count = Kind::of(kind).map_or(1, |kind| kind.count(n.clamp(FEWEST_BASES, MOST_BASES)));
     if rng.chance(1, 8) {
-        count = rng.within(0, 20);
+        count = rng.within(0, MOST_BASES + 4);
     }
     let mut ids = identifiers(rng, count);
     ids.sort_unstable();
@@ -107,7 +107,7 @@ pub fn write(rng: &mut Rng) -> Case {
             _ => {}
         }
     }
-    let fit = 4 * count + 4;
-    let length = if rng.chance(1, 4) { rng.within(fit.saturating_sub(2), fit + 2) } else { rng.within(0, 140) };
+    let fit = frame_bytes(count);
+    let length = if rng.chance(1, 4) { rng.within(fit.saturating_sub(2), fit + 2) } else { rng.within(0, LONGEST_BURST + 8) };
     Case::Write { n, kind, ids, out: rng.bytes(length) }
 }

@@ -38,7 +38,8 @@ pub enum Manner {
 }
 
 /// What is drawn from: impostors come up twice as often.
-pub const MANNERS: [Manner; 7] = [Manner::Silent, Manner::Honest, Manner::Impostor, Manner::Impostor, Manner::EarlyTrue, Manner::Repeater, Manner::Noisy];
+pub const MANNERS: [Manner; 7] =
+    [Manner::Silent, Manner::Honest, Manner::Impostor, Manner::Impostor, Manner::EarlyTrue, Manner::Repeater, Manner::Noisy];
 
 impl Plot {
     pub fn new(rng: &mut Rng, net: &Net) -> Plot {

@@ -5,7 +5,7 @@ use crate::generate::arrivals::{arrival, output};
 use crate::generate::records::{list_of, sound};
 use crate::generate::settings::identifiers;
 use crate::generate::unsound::breaking;
-use crate::limits::{most_faulty, LONGEST_BURST, MOST_BASES, OUTPUT_ROOM};
+use crate::limits::{most_faulty, FEWEST_BASES, LONGEST_BURST, MOST_BASES, OUTPUT_ROOM, SHORTEST_BURST};
 use crate::message::Message;
 use crate::reader::Number;
 use crate::record::RawBase;
@@ -38,7 +38,7 @@ pub fn arrive(rng: &mut Rng, numbers: &[Number]) -> Case {
     let burst = spoiled_burst(rng, numbers, message);
     spoil_head(rng, numbers, &mut record);
     if numbers.contains(&5) {
-        link = *rng.pick(&[0, n, n + 1, 16, 255, 256 + link, usize::MAX]);
+        link = *rng.pick(&[0, n, n + 1, MOST_BASES, 255, 256 + link, usize::MAX]);
     }
     let out = output_for(rng, numbers);
     Case::Arrive { record, link, burst, out, expect: numbers.iter().min().copied() }
@@ -76,7 +76,7 @@ pub fn others(rng: &mut Rng, numbers: &[Number]) -> Case {
 fn new_record(rng: &mut Rng, like: &RawBase, expect: Option<Number>) -> Case {
     let (mut n, mut t) = (like.n as usize, like.t as usize);
     if expect == Some(1) && rng.chance(1, 2) {
-        n = rng.within(2, 16) + 256 * rng.within(1, 300);
+        n = rng.within(FEWEST_BASES, MOST_BASES) + 256 * rng.within(1, 300);
     }
     if expect == Some(2) && rng.chance(1, 2) {
         t = 256 * rng.within(1, 300);
@@ -91,14 +91,14 @@ fn new_record(rng: &mut Rng, like: &RawBase, expect: Option<Number>) -> Case {
 fn spoil_head(rng: &mut Rng, numbers: &[Number], record: &mut RawBase) {
     let n = record.n as usize;
     if numbers.contains(&2) {
-        let above = most_faulty(n.clamp(2, MOST_BASES)) + 1;
+        let above = most_faulty(n.clamp(FEWEST_BASES, MOST_BASES)) + 1;
         record.t = *rng.pick(&[above, above + 1, 255, 128]) as u8;
     }
     if numbers.contains(&3) {
         record.own = 0;
     }
     if numbers.contains(&1) {
-        record.n = *rng.pick(&[0, 1, 17, 18, 255]);
+        record.n = *rng.pick(&[0, 1, MOST_BASES as u8 + 1, MOST_BASES as u8 + 2, 255]);
     }
 }
 
@@ -125,7 +125,7 @@ fn spoiled_burst(rng: &mut Rng, numbers: &[Number], message: Message) -> Vec<u8>
         frame[end - 2..].copy_from_slice(&wrong.to_be_bytes());
     }
     if numbers.contains(&9) {
-        frame[end - 3] = *rng.pick(&[0, 17, 200, 255]);
+        frame[end - 3] = *rng.pick(&[0, MOST_BASES as u8 + 1, 200, 255]);
     }
     if numbers.contains(&8) {
         frame[end - 4] = *rng.pick(&[0, 5, 6, 12, 129, 255]);
@@ -136,7 +136,7 @@ fn spoiled_burst(rng: &mut Rng, numbers: &[Number], message: Message) -> Vec<u8>
 /// The frame with some preamble, or too short, or too long.
 fn lengthened(rng: &mut Rng, refused: bool, frame: Vec<u8>) -> Vec<u8> {
     if refused && rng.chance(1, 2) {
-        return frame[frame.len() - rng.below(8)..].to_vec();
+        return frame[frame.len() - rng.below(SHORTEST_BURST)..].to_vec();
     }
     let room = LONGEST_BURST - frame.len();
     let length = match refused {

@@ -3,11 +3,17 @@
 use crate::case::Case;
 use crate::generate::bursts;
 use crate::generate::histories;
-use crate::limits::REPORT_ROOM;
+use crate::limits::{FEWEST_BASES, LONGEST_FORGERY, MOST_BASES, REPORT_ROOM};
 use crate::rng::Rng;
 use crate::schedule::render;
 
 pub fn schedule(rng: &mut Rng) -> Case {
+    let schedule = text(rng);
+    let room = if rng.chance(1, 50) { rng.below(REPORT_ROOM) } else { REPORT_ROOM + rng.below(50) };
+    Case::Replay { schedule, out: rng.bytes(room), expect: None }
+}
+
+pub fn text(rng: &mut Rng) -> Vec<u8> {
     let mut text = match rng.below(8) {
         0 => render(&histories::history(rng)).into_bytes(),
         _ => line_by_line(rng),
@@ -15,13 +21,12 @@ pub fn schedule(rng: &mut Rng) -> Case {
     for _ in 0..[0, 0, 1, 1, 1, 2, 3][rng.below(7)] {
         damage(rng, &mut text);
     }
-    let room = if rng.chance(1, 50) { rng.below(REPORT_ROOM) } else { REPORT_ROOM + rng.below(50) };
-    Case::Replay { schedule: text, out: rng.bytes(room), expect: None }
+    text
 }
 
 /// A small schedule in which most lines are right.
 fn line_by_line(rng: &mut Rng) -> Vec<u8> {
-    let n = if rng.chance(1, 15) { rng.below(20) } else { rng.within(2, 5) };
+    let n = if rng.chance(1, 15) { rng.below(MOST_BASES + 4) } else { rng.within(FEWEST_BASES, 5) };
     let t = if rng.chance(1, 15) { rng.below(4) } else { n.saturating_sub(2) / 2 };
     let mut text = format!("net {n} {t}\n");
     let listed = if rng.chance(1, 15) { rng.within(0, n + 1) } else { n };
@@ -50,8 +55,8 @@ fn event(rng: &mut Rng, n: usize, sent: &mut [usize]) -> String {
             format!("start {b}\n")
         }
         1 => {
-            let bytes = if n >= 2 { bursts::damaged(rng, n.min(16)) } else { rng.bytes(8) };
-            let hex: String = bytes.iter().take(133).map(|byte| format!("{byte:02x}")).collect();
+            let bytes = if n >= FEWEST_BASES { bursts::damaged(rng, n.min(MOST_BASES)) } else { rng.bytes(8) };
+            let hex: String = bytes.iter().take(LONGEST_FORGERY + 1).map(|byte| format!("{byte:02x}")).collect();
             format!("forge {a} {b} {hex}\n")
         }
         _ if a == b && rng.chance(9, 10) => String::new(),
@@ -141,12 +146,14 @@ fn spoiled_byte(rng: &mut Rng, line: &[u8]) -> Vec<u8> {
 
 /// A line out of place, or none at all.
 fn odd_line(rng: &mut Rng) -> Vec<u8> {
-    let lines = ["\n", "net 2 0\n", "id 1 7\n", "faulty 1 2\n", "faulty 2 1\n", "forge 1 2 \n", "forge 1 2\n", "start 0\n", "carry 1 1 1\n", "carry 1 2 0\n"];
-    let more = ["forge 2 1 AB\n", "forge 2 1 0\n", "start 1 \n", "starts 1\n", "base 1\n", "carry 1 2\n", "faulty 1 1\n", "start 17\n", "# note\n", " \n"];
-    let long = format!("forge 1 2 {}\n", "00".repeat(rng.within(131, 134)));
-    match rng.below(3) {
-        0 => lines[rng.below(lines.len())].into(),
-        1 => more[rng.below(more.len())].into(),
+    let headers = ["\n", "net 2 0\n", "id 1 7\n", "faulty 1 2\n", "faulty 2 1\n", "faulty 1 1\n", "base 1\n", "# note\n", " \n"];
+    let events = ["forge 1 2 \n", "forge 1 2\n", "forge 2 1 AB\n", "forge 2 1 0\n", "carry 1 1 1\n", "carry 1 2 0\n", "carry 1 2\n"];
+    let starts = ["start 0\n", "start 1 \n", "starts 1\n", &format!("start {}\n", MOST_BASES + 1)];
+    let long = format!("forge 1 2 {}\n", "00".repeat(rng.within(LONGEST_FORGERY - 1, LONGEST_FORGERY + 2)));
+    match rng.below(6) {
+        0 | 1 => headers[rng.below(headers.len())].into(),
+        2 => events[rng.below(events.len())].into(),
+        3 => starts[rng.below(starts.len())].into(),
         _ => long.into_bytes(),
     }
 }

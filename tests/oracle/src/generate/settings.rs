@@ -1,6 +1,6 @@
 //! Nets to begin with: n, t, identifiers and faulty links.
 
-use crate::limits::{most_faulty, MOST_BASES};
+use crate::limits::{most_faulty, FEWEST_BASES, MOST_BASES};
 use crate::net::Setting;
 use crate::rng::Rng;
 use std::collections::BTreeSet;
@@ -8,9 +8,9 @@ use std::collections::BTreeSet;
 /// Half of them small, where all thresholds lie close together.
 pub fn net_size(rng: &mut Rng) -> usize {
     if rng.chance(1, 2) {
-        rng.within(2, 7)
+        rng.within(FEWEST_BASES, 7)
     } else {
-        rng.within(2, MOST_BASES)
+        rng.within(FEWEST_BASES, MOST_BASES)
     }
 }
 

@@ -86,12 +86,12 @@ fn spoil_link(rng: &mut Rng, rule: Rule, link: &mut crate::record::RawLink, n: u
             link.verifies = [0; LIST_ROOM];
             let used = wanted.min(LIST_ROOM);
             link.verifies[..used].copy_from_slice(&identifiers(rng, used));
-            link.verify_count = wanted as u8;
+            link.verify_count = wanted as u16;
         }
         Rule::VerifiesAboveZero if count > 0 => link.verifies[rng.below(count)] = 0,
         Rule::VerifiesZeroBehind if count < LIST_ROOM => link.verifies[rng.within(count, LIST_ROOM - 1)] = rng.word() as u32,
         Rule::NoVerifyTwice if count > 1 => link.verifies[rng.below(count)] = link.verifies[rng.below(count)],
-        Rule::HeldKindKnown => link.held = *rng.pick(&[1, 2, 5, 6, 67, 131, 255]),
+        Rule::HeldKindKnown => link.held = *rng.pick(&[1, 2, 5, 6, 67, 131, 255, 256, 259, 260, 65535]),
         Rule::HeldListAscends if link.held != 0 => spoil_list(rng, &mut link.list[..n]),
         Rule::HeldListZeroBehind => link.list[rng.below(MOST_BASES)] = rng.word() as u32,
         _ => {}
@@ -116,7 +116,7 @@ fn hold_something(rng: &mut Rng, link: &mut crate::record::RawLink, n: usize) {
             link.verify_count = 1;
         }
         2 => {
-            link.held = rng.within(3, 4) as u8;
+            link.held = rng.within(3, 4) as u16;
             (0..n).for_each(|i| link.list[i] = i as u32 + 1);
         }
         _ => link.list[rng.below(MOST_BASES)] = rng.within(1, 9) as u32,

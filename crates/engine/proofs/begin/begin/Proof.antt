@@ -1,11 +1,12 @@
 -- `engine::begin::begin` meets its contract: the two frames, the state, the answer.
 use mathlib.Core.List.{[], _∷_}
-use mathlib.Core.Path.{_∙_}
-use native.Mathlib.Omega.{arith}
+use mathlib.Core.Path.{sym, ap, _∙_}
 use borrow.Author.Needs.{needs}
 use Rattle.engine.specs.Parts.Laws.{begins-step, begins-output}
 use Rattle.protocol.specs.Steps.{withState}
-use Rattle.writer.specs.Writing.Laws.{two-length, two-output}
+use Rattle.frame.specs.Reading.Laws.{announce-kind, verify-kind}
+use Rattle.writer.specs.declared.TwoLengths.{TwoLengths}
+use Rattle.writer.specs.Writing.Laws.{put-two-lengths, put-two-output}
 use Rattle.engine.proofs.begin.begin.Statement.{statement}
 use Rattle.engine.proofs.begin.begin.Tie as tie
 
@@ -23,7 +24,15 @@ same-length c = search needs
 
 returns : tie.Need-returns
 unfolding withState
-returns c = let w = c .before .before .before .put-two .ensures in let b = c .before .before .before .before .before .before .before .args .base in (begins-step b _ _ _ (w .0 ∙ two-length 1 _ (omega arith) (c .before .before .before .before .before .before .before .pre)) (w .1 .0) (c .accepted .ensures), begins-output b _ _ (w .1 .1 ∙ two-output 1 2 (b .own ∷ []) _ (omega arith) (c .before .before .before .before .before .before .before .pre)))
+returns c =
+    let w = c .before .before .before .put-two .ensures in
+    let s = c .before .before .before .before .before .before .before in
+    let b = s .args .base in
+    let ids = b .own ∷ [] in
+    let e = w .0 ∙ put-two-lengths (b .n) 1 2 ids (s .args .out .now) (announce-kind (b .n)) (verify-kind (b .n)) (s .pre) in (
+      begins-step b _ _ _ (ap (λ (r : TwoLengths). r .front) e) (ap (λ (r : TwoLengths). r .next) e ∙ sym (ap (λ (r : TwoLengths). r .front) e)) (c .accepted .ensures),
+      begins-output b _ _ (w .1 ∙ put-two-output (b .n) 1 2 ids (s .args .out .now) (announce-kind (b .n)) (verify-kind (b .n)) (s .pre)),
+    )
 
 pub begin-spec : {M : Type 1} → statement M
 begin-spec =

@@ -13,6 +13,7 @@ use Rattle.protocol.specs.Steps.{accepts, secondaryCheck, withSent, encodeAll, 
 use Rattle.frame.specs.Encoding.Laws.{over-rest, length-frame}
 use Rattle.frame.specs.Message.{verifyFinal, kindOf, idsOf}
 use Rattle.limits.specs.Limits.{frameBytes}
+use Rattle.frame.specs.Reading.Laws.{verify-final-kind}
 use Rattle.engine.proofs.correct_final.vote_and_check.Statement.{statement}
 use Rattle.engine.proofs.correct_final.vote_and_check.Tie as tie
 
@@ -46,7 +47,7 @@ returns c = let s = c .before .before .before .before .before .before .before .b
     (one-step _ k (c .before .before .before .before .secondary-check .result) _ e (secondary-lone b v .1) (p .0) (c .accepted .ensures), one-output _ k _ _ e (p .1))
 
 say-list-requires : tie.Need-say-list-requires
-say-list-requires c κs = (c .before .before .before .before .pre .0, omega (arith, room (c .before)))
+say-list-requires c κs = let s = c .before .before .before .before in (s .pre .0, (verify-final-kind (s .args .base .n), omega (arith, room (c .before))))
 
 sub-secondary-check : tie.Need-sub-secondary-check
 sub-secondary-check c = omega (arith, room (c .before .before .before .before), c .before .before .say-list .ensures .0, c .before .before .say-list .kept)

@@ -11,11 +11,12 @@ use Rattle.protocol.specs.Steps.{outputOf}
 use Rattle.frame.specs.Encoding.Laws.{length-frame}
 use Rattle.frame.specs.Encoding.{over}
 use Rattle.limits.specs.Limits.{frameBytes}
+use Rattle.frame.specs.Reading.Laws.{correct-final-kind}
 use Rattle.engine.proofs.stop.stop.Statement.{statement}
 use Rattle.engine.proofs.stop.stop.Tie as tie
 
 say-list-requires : tie.Need-say-list-requires
-say-list-requires c κs = search needs
+say-list-requires c κs = let s = c .before .before in (s .pre .0, (correct-final-kind (s .args .base .n), s .pre .1 .1))
 
 same-length : tie.Need-same-length
 same-length c = search needs

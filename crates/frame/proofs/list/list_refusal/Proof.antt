@@ -23,18 +23,36 @@ none-zero-requires c κs = search needs
 
 returns : tie.Need-returns
 unfolding listRefusal choose
-returns c = let s = c .before .before .before .args .ids .now in simp (whole nonzero s (c .before .none-zero .ensures) (not-true _ (c .if1 .taken)))
+returns c =
+    let a = c .before .before .before .args in
+    let s = a .ids .now in simp (whole nonzero s (c .before .none-zero .ensures) (not-true _ (c .if1 .taken)))
 
 ascends-requires : tie.Need-ascends-requires
 ascends-requires c κs = search needs
 
 returns-2 : tie.Need-returns-2
 unfolding listRefusal choose
-returns-2 c = let s = c .before .before .before .before .before .args .ids .now in simp (whole nonzero s (c .before .before .before .none-zero .ensures) (not-false _ (c .before .before .if1 .left)), whole ascending s (c .before .ascends .ensures) (not-true _ (c .if2 .taken)))
+returns-2 c =
+    let a = c .before .before .before .before .before .args in
+    let none-zero = c .before .before .before .none-zero in
+    let if1 = c .before .before .if1 in
+    let s = a .ids .now in
+    simp (
+      whole nonzero s (none-zero .ensures) (not-false _ (if1 .left)),
+      whole ascending s (c .before .ascends .ensures) (not-true _ (c .if2 .taken)),
+    )
 
 returns-3 : tie.Need-returns-3
 unfolding listRefusal choose
-returns-3 c = let s = c .before .before .before .before .before .args .ids .now in simp (whole nonzero s (c .before .before .before .none-zero .ensures) (not-false _ (c .before .before .if1 .left)), whole ascending s (c .before .ascends .ensures) (not-false _ (c .if2 .left)))
+returns-3 c =
+    let a = c .before .before .before .before .before .args in
+    let none-zero = c .before .before .before .none-zero in
+    let if1 = c .before .before .if1 in
+    let s = a .ids .now in
+    simp (
+      whole nonzero s (none-zero .ensures) (not-false _ (if1 .left)),
+      whole ascending s (c .before .ascends .ensures) (not-false _ (c .if2 .left)),
+    )
 
 pub list-refusal-spec : {M : Type 1} → statement M
 list-refusal-spec =

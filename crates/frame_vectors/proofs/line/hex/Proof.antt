@@ -1,16 +1,17 @@
 -- The place goes up to the text's end, and the bytes up to their room.
-use Prim.Native.Nat.{_≤_, _-_}
+use Prim.Native.Nat.{_≤_, _-_, _*_}
 use mathlib.Core.Path.{_≡_}
 use borrow.Author.Needs.{needs}
 use lib.ListN.{length}
+use Rattle.limits.specs.Limits.{longestBurst}
 use Rattle.frame_vectors.proofs.line.hex.Statement.{statement}
 use Rattle.frame_vectors.proofs.line.hex.Tie as tie
 
 abbrev Inv-loop : tie.InvT-loop
-Inv-loop text at bytes₀ i₀ len₀ bytes i len = (len ≤ 160) × (length bytes ≡ 160)
+Inv-loop text at bytes₀ i₀ len₀ bytes i len = (len ≤ 2 * longestBurst) × (length bytes ≡ 2 * longestBurst)
 
 abbrev μ-loop : tie.MeasureT-loop
-μ-loop text at bytes₀ i₀ len₀ bytes i len = 160 - len
+μ-loop text at bytes₀ i₀ len₀ bytes i len = 2 * longestBurst - len
 
 loop-holds : tie.Need-loop-holds Inv-loop μ-loop
 loop-holds c = search needs

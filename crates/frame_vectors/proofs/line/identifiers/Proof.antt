@@ -1,16 +1,17 @@
 -- The identifiers go up to their room.
-use Prim.Native.Nat.{_≤_, _-_}
+use Prim.Native.Nat.{_≤_, _-_, _*_}
 use mathlib.Core.Path.{_≡_}
 use borrow.Author.Needs.{needs}
 use lib.ListN.{length}
+use Rattle.limits.specs.Limits.{listRoom}
 use Rattle.frame_vectors.proofs.line.identifiers.Statement.{statement}
 use Rattle.frame_vectors.proofs.line.identifiers.Tie as tie
 
 abbrev Inv-loop : tie.InvT-loop
-Inv-loop text at list₀ place₀ len₀ list place len = (len ≤ 18) × (length list ≡ 18)
+Inv-loop text at list₀ place₀ len₀ list place len = (len ≤ 2 * listRoom) × (length list ≡ 2 * listRoom)
 
 abbrev μ-loop : tie.MeasureT-loop
-μ-loop text at list₀ place₀ len₀ list place len = 18 - len
+μ-loop text at list₀ place₀ len₀ list place len = 2 * listRoom - len
 
 loop-holds : tie.Need-loop-holds Inv-loop μ-loop
 loop-holds c = search needs

@@ -4,7 +4,7 @@ use mathlib.Core.Path.{sym, _∙_}
 use borrow.Author.Tests.{lt-leb, le-leb}
 use Rattle.lists.specs.Choice.{choose, and}
 use Rattle.lines.specs.Lines.{carryFields}
-use Rattle.lines.specs.Lines.Laws.{base-range, two-range}
+use Rattle.lines.specs.Lines.Laws.{net-base-range, two-range}
 use borrow.Author.Needs.{needs}
 use Rattle.lines.proofs.event.carry_fields.Statement.{statement}
 use Rattle.lines.proofs.event.carry_fields.Tie as tie
@@ -53,11 +53,11 @@ two-bases-requires c κs = search needs
 
 cast-t14 : tie.Need-cast-t14
 cast-t14 c =
-    omega (arith, base-range (c .before .before .before .before .before .before .before .before .before .before .before .before .args .n) _ (two-range (c .before .before .before .before .before .before .before .before .before .before .before .before .args .n) _ _ (sym (c .before .two-bases .ensures) ∙ c .if2 .taken) .0) .1)
+    omega (arith, net-base-range (c .before .before .before .before .before .before .before .before .before .before .before .before .args .n) _ (two-range (c .before .before .before .before .before .before .before .before .before .before .before .before .args .n) _ _ (sym (c .before .two-bases .ensures) ∙ c .if2 .taken) .0) .1)
 
 cast-t15 : tie.Need-cast-t15
 cast-t15 c =
-    omega (arith, base-range (c .before .before .before .before .before .before .before .before .before .before .before .before .args .n) _ (two-range (c .before .before .before .before .before .before .before .before .before .before .before .before .args .n) _ _ (sym (c .before .two-bases .ensures) ∙ c .if2 .taken) .1 .0) .1)
+    omega (arith, net-base-range (c .before .before .before .before .before .before .before .before .before .before .before .before .args .n) _ (two-range (c .before .before .before .before .before .before .before .before .before .before .before .before .args .n) _ _ (sym (c .before .two-bases .ensures) ∙ c .if2 .taken) .1 .0) .1)
 
 returns-4 : tie.Need-returns-4
 unfolding carryFields choose and

@@ -3,7 +3,7 @@ use native.Mathlib.Omega.{arith}
 use mathlib.Core.Path.{sym, _∙_}
 use Rattle.lists.specs.Choice.{choose}
 use Rattle.lines.specs.Lines.{forgeFields}
-use Rattle.lines.specs.Lines.Laws.{base-range, two-range}
+use Rattle.lines.specs.Lines.Laws.{net-base-range, two-range}
 use borrow.Author.Needs.{needs}
 use Rattle.lines.proofs.event.forge_fields.Statement.{statement}
 use Rattle.lines.proofs.event.forge_fields.Tie as tie
@@ -43,11 +43,11 @@ two-bases-requires c κs = search needs
 
 cast-t13 : tie.Need-cast-t13
 cast-t13 c =
-    omega (arith, base-range (c .before .before .before .before .before .before .before .before .before .before .before .args .n) _ (two-range (c .before .before .before .before .before .before .before .before .before .before .before .args .n) _ _ (sym (c .before .two-bases .ensures) ∙ c .if1 .taken) .0) .1)
+    omega (arith, net-base-range (c .before .before .before .before .before .before .before .before .before .before .before .args .n) _ (two-range (c .before .before .before .before .before .before .before .before .before .before .before .args .n) _ _ (sym (c .before .two-bases .ensures) ∙ c .if1 .taken) .0) .1)
 
 cast-t14 : tie.Need-cast-t14
 cast-t14 c =
-    omega (arith, base-range (c .before .before .before .before .before .before .before .before .before .before .before .args .n) _ (two-range (c .before .before .before .before .before .before .before .before .before .before .before .args .n) _ _ (sym (c .before .two-bases .ensures) ∙ c .if1 .taken) .1 .0) .1)
+    omega (arith, net-base-range (c .before .before .before .before .before .before .before .before .before .before .before .args .n) _ (two-range (c .before .before .before .before .before .before .before .before .before .before .before .args .n) _ _ (sym (c .before .two-bases .ensures) ∙ c .if1 .taken) .1 .0) .1)
 
 returns-3 : tie.Need-returns-3
 unfolding forgeFields choose

@@ -3,7 +3,7 @@ use native.Mathlib.Omega.{arith}
 use mathlib.Core.Path.{sym, _∙_}
 use Rattle.lists.specs.Choice.{choose}
 use Rattle.lines.specs.Lines.{startFields}
-use Rattle.lines.specs.Lines.Laws.{base-range}
+use Rattle.lines.specs.Lines.Laws.{net-base-range}
 use borrow.Author.Needs.{needs}
 use Rattle.lines.proofs.event.start_fields.Statement.{statement}
 use Rattle.lines.proofs.event.start_fields.Tie as tie
@@ -26,7 +26,7 @@ is-base-requires c κs = search needs
 
 cast-t9 : tie.Need-cast-t9
 cast-t9 c =
-    omega (arith, base-range (c .before .before .before .before .before .before .before .args .n) _ (sym (c .before .is-base .ensures) ∙ c .if1 .taken) .1)
+    omega (arith, net-base-range (c .before .before .before .before .before .before .before .args .n) _ (sym (c .before .is-base .ensures) ∙ c .if1 .taken) .1)
 
 returns-2 : tie.Need-returns-2
 unfolding startFields choose

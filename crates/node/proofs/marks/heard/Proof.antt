@@ -1,6 +1,6 @@
 use mathlib.Core.Path.{refl}
 use Rattle.lists.specs.Choice.Laws.{and-fails, and-goes-on}
-use Rattle.node.specs.Node.{heardBy, place}
+use Rattle.node.specs.Node.{heardBy, markPlace}
 use Rattle.node.specs.Node.Within.{is-within, below-one, above-most}
 use borrow.Author.Needs.{needs}
 use Rattle.node.proofs.marks.heard.Statement.{statement}
@@ -32,7 +32,7 @@ element-copy-out-result : tie.Need-element-copy-out-result
 element-copy-out-result c = search needs
 
 returns-5 : tie.Need-returns-5
-unfolding heardBy place
+unfolding heardBy markPlace
 returns-5 c = and-goes-on (is-within (c .before .before .before .before .if1 .left) (c .before .before .before .if2 .left)) (and-goes-on (is-within (c .before .before .if3 .left) (c .before .if4 .left)) refl)
 
 pub heard-spec : {M : Type 1} → statement M

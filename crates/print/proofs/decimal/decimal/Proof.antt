@@ -6,7 +6,7 @@ use mathlib.Core.Path.{_≡_, refl}
 use mathlib.Core.List.{_++_}
 use lib.ListN.{length, drop, replicate, length-set, length-replicate}
 use Rattle.print.specs.Decimal.{mostDigits, lastDigits, decimalText}
-use Rattle.print.specs.Decimal.Laws.{digits-begin, digits-last, digits-more, digits-all}
+use Rattle.print.specs.Decimal.Laws.{digits-begin, digits-last, decimal-more, digits-all}
 use Rattle.print.proofs.decimal.decimal.Statement.{statement}
 use Rattle.print.proofs.decimal.decimal.Tie as tie
 
@@ -37,7 +37,7 @@ loop-less c = search needs
 
 loop-again : tie.Need-loop-again Inv-loop μ-loop
 loop-again c =
-    (omega arith, (simp length-set (c .before .before .before .loop .inv .1 .0), digits-more _ _ _ _ _ (c .before .before .loop-test .taken) (omega arith) (c .if1 .left) (c .before .digit .ensures) (c .before .before .before .loop .inv .1 .1)))
+    (omega arith, (simp length-set (c .before .before .before .loop .inv .1 .0), decimal-more _ _ _ _ _ (c .before .before .loop-test .taken) (omega arith) (c .if1 .left) (c .before .digit .ensures) (c .before .before .before .loop .inv .1 .1)))
 
 returns-2 : tie.Need-returns-2 Inv-loop μ-loop
 returns-2 c = (omega arith, (c .before .loop .inv .1 .0, digits-all _ _ _ _ (c .loop-test .left) (c .before .loop .inv .1 .1)))

@@ -1,20 +1,17 @@
--- What a base of the group has broadcast is what its record has spent: the two frames of its start, a Verify for each identifier announced, a Verify-Final and a
--- Correct-Final at most. So a log holds at most n + 3 messages.
+-- What a base of the group has broadcast is what its record has spent: the two frames of its start, a Verify for each identifier announced,
+-- a Verify-Final and a Correct-Final at most. So a log holds at most n + 3 messages.
 use Prim.Native.Nat.{ℕ, _+_, _≤_, _<_}
-use mathlib.Core.Path.{_≡_, refl, sym, ap, _∙_, subst}
-use mathlib.Core.Logic.{_≢_}
+use mathlib.Core.Path.{_≡_, sym, ap, _∙_}
 use mathlib.Core.Bool.{true, false, not}
 use mathlib.Core.List.{List, []}
 use native.Mathlib.Omega.{arith}
 use borrow.Author.Tests.{eqb-true, eq-eqb}
-use lib.Dec.{eqb, leb}
 use lib.ListN.{length, length-append}
 use Rattle.lists.specs.Choice.{choose}
 use Rattle.counting.specs.Sums.{bit}
-use Rattle.frame.specs.Message.{Message, Valid}
 use Rattle.protocol.specs.declared.Base.{Base}
 use Rattle.protocol.specs.Links.{announces}
-use Rattle.protocol.specs.Record.{linkAt, linkCount, announced}
+use Rattle.protocol.specs.Record.{linkAt, linkCount}
 use Rattle.protocol.specs.Record.Laws.{link-room}
 use Rattle.protocol.specs.Record.Announced.{announced-none}
 use Rattle.protocol.specs.Sound.{idle, recordRefusal}
@@ -24,43 +21,48 @@ use Rattle.protocol.specs.Steps.Certified.{announcedTo}
 use Rattle.protocol.specs.Steps.Life.{spentBy, spent, spent-most, start-step-paid, arrival-step-paid}
 use Rattle.protocol.specs.Agreement.Invariant.{Premises}
 use Rattle.protocol.specs.Agreement.Observers.{placeOf}
-use Rattle.protocol.specs.Agreement.Inner.{Member, Group, called, Fresh, Reached, fresh, starts, arrives}
+use Rattle.protocol.specs.Agreement.Inner.{Group, groupAfter, ReachedGroup, fresh, starts, arrives}
 use Rattle.protocol.specs.Agreement.Inner.Moves.{called-each, member-heard}
-use Rattle.protocol.specs.Agreement.Inner.Theorem.{Stands, stands}
+use Rattle.protocol.specs.Agreement.Inner.Theorem.{GroupInvariant, group-invariant}
 
 -- an idle record has spent nothing
 idle-spent : (b : Base) → recordRefusal b ≡ 0 → idle b ≡ true → spent b ≡ 0
 unfolding spent
-idle-spent b e off = go (nobody) (eqb-true (b .state) 0 (unfold idle in off)) (idle-unsent b (sound-parts b (record-passed b e .sound) .idle) off)
+idle-spent b e off =
+    go (nobody) (eqb-true (b .state) 0 (unfold idle in off)) (idle-unsent b (sound-parts b (record-passed b e .sound) .idle) off)
   where
     nobody : announcedTo b ≡ []
     nobody = announced-none (linkCount b) (linkAt b) (λ i l. silent i l)
       where
         silent : (i : ℕ) → i < linkCount b → announces (linkAt b i) ≡ false
-        silent i l = unfold announces in ap not (eq-eqb (linkAt b i .announce) 0 (idle-place b (sound-parts b (record-passed b e .sound) .idle) off i (omega (arith, link-room b)) .announce))
+        silent i l = unfold announces in ap not (eq-eqb (linkAt b i .announce) 0
+            (idle-place b (sound-parts b (record-passed b e .sound) .idle) off i (omega (arith, link-room b)) .announce))
 
     go : announcedTo b ≡ [] → b .state ≡ 0 → b .sent ≡ 0 → spentBy (b .state) (length (announcedTo b)) (b .sent) ≡ 0
     go p q r = unfold spentBy choose bit in rw (p, q, r)
 
 module _ (n t : ℕ) (faulty : ℕ → ℕ → ℕ) (id : ℕ → ℕ) (truth : List ℕ) (P : Premises n t faulty id truth) where
-  log-spent : {N : Group} → Reached n t faulty id N → (x : ℕ) → x < n → spent (N .base x) ≡ length (N .log x)
+  log-spent : {N : Group} → ReachedGroup n t faulty id N → (x : ℕ) → x < n → spent (N .base x) ≡ length (N .log x)
   log-spent (fresh {N = N} F) = λ x l. idle-spent (N .base x) (F .member x l .refusal) (F .idle x l) ∙ ap length (sym (F .silent x l))
   log-spent (starts {N = N} R y y-in) = called-each N y (startStep (N .base y)) (N .handed) (λ x b log. x < n → spent b ≡ length log)
       (λ l. omega (arith, start-step-paid (N .base y), log-spent R y y-in, length-append (N .log y) (startStep (N .base y) .says)))
       (λ x ne l. log-spent R x l)
-  log-spent (arrives {N = N} R x y m handed x-in y-in ne w source newly) = go (stands n t faulty id truth P R) (log-spent R)
+  log-spent (arrives {N = N} R x y m handed x-in y-in ne w source newly) = go (group-invariant n t faulty id truth P R) (log-spent R)
     where
-      go : Stands n t faulty id truth N → ((z : ℕ) → z < n → spent (N .base z) ≡ length (N .log z))
-          → (z : ℕ) → z < n → spent (called N y (arrivalStep (N .base y) (placeOf y x) m) handed .base z) ≡ length (called N y (arrivalStep (N .base y) (placeOf y x) m) handed .log z)
+      go : GroupInvariant n t faulty id truth N → ((z : ℕ) → z < n → spent (N .base z) ≡ length (N .log z))
+          → (z : ℕ) → z < n
+          → spent (groupAfter N y (arrivalStep (N .base y) (placeOf y x) m) handed .base z)
+          ≡ length (groupAfter N y (arrivalStep (N .base y) (placeOf y x) m) handed .log z)
       go S before = called-each N y (arrivalStep (N .base y) (placeOf y x) m) handed (λ z b log. z < n → spent b ≡ length log)
           (λ l. omega (
             arith,
-            arrival-step-paid (N .base y) (placeOf y x) m (S .member y y-in .sized) (member-heard n t y y-in (id y) (N .base y) (S .member y y-in) x x-in ne m w),
+            arrival-step-paid (N .base y) (placeOf y x) m (S .member y y-in .sized)
+                (member-heard n t y y-in (id y) (N .base y) (S .member y y-in) x x-in ne m w),
             before y y-in,
             length-append (N .log y) (arrivalStep (N .base y) (placeOf y x) m .says),
           ))
           (λ z d l. before z l)
 
-  pub log-most : {N : Group} → Reached n t faulty id N → (x : ℕ) → x < n → length (N .log x) ≤ n + 3
-  log-most {N} R x l = let M = stands n t faulty id truth P R .member x l in
+  pub log-most : {N : Group} → ReachedGroup n t faulty id N → (x : ℕ) → x < n → length (N .log x) ≤ n + 3
+  log-most {N} R x l = let M = group-invariant n t faulty id truth P R .member x l in
       omega (arith, log-spent R x l, M .n-is, spent-most (N .base x) (omega (arith, M .n-is)))

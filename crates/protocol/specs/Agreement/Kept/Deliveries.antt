@@ -1,5 +1,5 @@
--- A step keeps deliveries: what arrives on a good link at a base that runs on is there afterwards. It is never discarded for good, since what would discard
--- it is the same message, and a good link's list is never too full for a Verify that is new to it.
+-- A step keeps deliveries: what arrives on a good link at a base that runs on is there afterwards. It is never discarded for good, since
+-- what would discard it is the same message, and a good link's list is never too full for a Verify that is new to it.
 use Prim.Native.Nat.{ℕ, _≤_, _<_}
 use mathlib.Core.Path.{_≡_, refl, sym, ap, _∙_, subst}
 use mathlib.Core.Logic.{_≢_, inl, inr}
@@ -14,13 +14,14 @@ use Rattle.counting.specs.Pigeonhole.{Injective, Met, pigeonhole, pigeonhole-sp
 use Rattle.frame.specs.Message.{Message, announce, verify, correctFinal, verifyFinal}
 use Rattle.lists.specs.Choice.Laws.{clash}
 use Rattle.protocol.specs.Agreement.Cases.{true-or-false}
-use Rattle.protocol.specs.Agreement.Views.{View, Said, Holds, Certified}
+use Rattle.protocol.specs.Agreement.Views.{View, Said, ViewHolds, Certified}
 use Rattle.protocol.specs.Agreement.Calls.{arrival, Taken}
 use Rattle.protocol.specs.Agreement.Growth.{Delivered, delivered-grows}
 use Rattle.protocol.specs.Agreement.Invariant.{State, Invariant, broadcastAt}
-use Rattle.protocol.specs.Agreement.NetSteps.{NetStep, each-base, base-grows}
+use Rattle.protocol.specs.Agreement.NetSteps.{NetStep, at-each-base, base-grows}
 
-module _ (n t : ℕ) (faulty : ℕ → ℕ → ℕ) (id : ℕ → ℕ) (truth : List ℕ) (N M : State) (I : Invariant n t faulty id truth N) (S : NetStep n t faulty id N M) where
+module _ (n t : ℕ) (faulty : ℕ → ℕ → ℕ) (id : ℕ → ℕ) (truth : List ℕ) (N M : State) (I : Invariant n t faulty id truth N)
+    (S : NetStep n t faulty id N M) where
   abbrev me : ℕ
   me = S .me
 
@@ -32,7 +33,7 @@ module _ (n t : ℕ) (faulty : ℕ → ℕ → ℕ) (id : ℕ → ℕ) (truth : 
 
   -- ---- an arrival on the good link to x
   module _ (x : ℕ) (x-in : x < n) (apart : x ≢ me) (good : faulty x me ≡ 0) where
-    hears : (m : Message) → Holds b x m → Said m (N .log x)
+    hears : (m : Message) → ViewHolds b x m → Said m (N .log x)
     hears m h = I .heard me x m (S .inside) x-in apart good h
 
     -- what the link holds as Verify is different, and x has certified each of it: so it is at most n
@@ -45,7 +46,8 @@ module _ (n t : ℕ) (faulty : ℕ → ℕ → ℕ) (id : ℕ → ℕ) (truth : 
 
     verifies-certified : (k : ℕ) → k < length (b .verifies x) → Met n (N .base x .named) (verify-at k)
     unfolding verify-at
-    verifies-certified k l = I .backed x (verify (getD (b .verifies x) k 0)) x-in (hears (verify (getD (b .verifies x) k 0)) (member-at (b .verifies x) k l)) .1
+    verifies-certified k l =
+        I .backed x (verify (getD (b .verifies x) k 0)) x-in (hears (verify (getD (b .verifies x) k 0)) (member-at (b .verifies x) k l)) .1
 
     verifies-most : length (b .verifies x) ≤ n
     verifies-most = pigeonhole (length (b .verifies x)) n verify-at (N .base x .named) verifies-apart verifies-certified
@@ -90,15 +92,18 @@ module _ (n t : ℕ) (faulty : ℕ → ℕ → ℕ) (id : ℕ → ℕ) (truth : 
 
   -- ---- what was handed over before, and what is handed over now
   log-at : (x k : ℕ) → k < length (N .log x) → (k < length (M .log x)) × (broadcastAt (M .log x) k ≡ broadcastAt (N .log x) k)
-  log-at = each-base n t faulty id N M S (λ x b log. (k : ℕ) → k < length (N .log x) → (k < length log) × (broadcastAt log k ≡ broadcastAt (N .log x) k))
+  log-at = at-each-base n t faulty id N M S
+      (λ x b log. (k : ℕ) → k < length (N .log x) → (k < length log) × (broadcastAt log k ≡ broadcastAt (N .log x) k))
       (λ k h. (omega (arith, length-append (N .log me) (S .says)), List·getD-append (N .log me) (S .says) (announce 0) k h))
       (λ x ne k h. (h, refl))
 
   grows-delivered : (x y : ℕ) (m : Message) → Delivered n (N .base y) x m → Delivered n (M .base y) x m
   grows-delivered x y m h = delivered-grows n (N .base y) (M .base y) (base-grows n t faulty id N M S y) x m h
 
-  delivered-now : (x y : ℕ) (m : Message) → x < n → x ≢ y → faulty x y ≡ 0 → y ≡ me → S .input ≡ arrival x m → M .base y .state ≤ 1 → Delivered n (M .base y) x m
-  delivered-now x y m lx ne good e a = rw (e, S .base-here) (λ s. arrives x lx (λ p. ne (p ∙ sym e)) (subst (λ z. faulty x z ≡ 0) e good) m a s)
+  delivered-now : (x y : ℕ) (m : Message) → x < n → x ≢ y → faulty x y ≡ 0 → y ≡ me → S .input ≡ arrival x m → M .base y .state ≤ 1
+      → Delivered n (M .base y) x m
+  delivered-now x y m lx ne good e a =
+      rw (e, S .base-here) (λ s. arrives x lx (λ p. ne (p ∙ sym e)) (subst (λ z. faulty x z ≡ 0) e good) m a s)
 
   pub delivered-kept : (x y k : ℕ) → x < n → y < n → x ≢ y → faulty x y ≡ 0 → M .handed x y k ≡ true
       → (k < length (M .log x)) × (M .base y .state ≤ 1 → Delivered n (M .base y) x (broadcastAt (M .log x) k))

@@ -1,5 +1,5 @@
--- A step keeps the final lists true: a base that turns prime has certified the true identifiers and no others, and a base that turns secondary takes a list
--- that somebody decided before, which is the true one. So the first base to stop is a prime one.
+-- A step keeps the final lists true: a base that turns prime has certified the true identifiers and no others, and a base that turns
+-- secondary takes a list that somebody decided before, which is the true one. So the first base to stop is a prime one.
 use Prim.Native.Nat.{ℕ, _≤_, _<_}
 use mathlib.Core.Path.{_≡_, refl, sym, _∙_, subst}
 use mathlib.Core.Logic.{_≢_, _⊎_, inl, inr}
@@ -14,21 +14,26 @@ use Rattle.counting.specs.Pigeonhole.{Injective, Met}
 use Rattle.frame.specs.Message.{Message, announce, verify, correctFinal, verifyFinal}
 use Rattle.lists.specs.Choice.Laws.{clash}
 use Rattle.protocol.specs.Agreement.Cases.{running-or-stopped, prime-or-secondary}
-use Rattle.protocol.specs.Agreement.Views.{View, Said, Holds, Certified, tallyOf, Prime, Secondary, Lists}
+use Rattle.protocol.specs.Agreement.Views.{View, Said, ViewHolds, Certified, tallyOf, Prime, Secondary, Lists}
 use Rattle.protocol.specs.Agreement.Calls.{Grows, SoundView, Stopping, before, as-prime, as-secondary}
 use Rattle.protocol.specs.Agreement.Growth.{certified-grows, corrects-grow}
 use Rattle.protocol.specs.Agreement.Prime.{names-true, truth-named}
 use Rattle.protocol.specs.Agreement.Secondary.{undecided-tally}
 use Rattle.protocol.specs.Agreement.Invariant.{Premises, State, Invariant}
-use Rattle.protocol.specs.Agreement.NetSteps.{NetStep, each-base, base-grows}
+use Rattle.protocol.specs.Agreement.NetSteps.{NetStep, at-each-base, base-grows}
 use Rattle.protocol.specs.Agreement.Kept.Logs.{sound-kept, heard-before}
 
 -- two ascending lists of the same identifiers are one
-pub lists-unique : (n : ℕ) (c id : ℕ → ℕ) (v u : List ℕ) → ((x : ℕ) → x < n → Met n id (c x)) → ((x : ℕ) → x < n → Met n c (id x)) → Lists n c v → Lists n id u → v ≡ u
+pub lists-unique : (n : ℕ) (c id : ℕ → ℕ) (v u : List ℕ) → ((x : ℕ) → x < n → Met n id (c x)) → ((x : ℕ) → x < n → Met n c (id x))
+    → Lists n c v → Lists n id u → v ≡ u
 lists-unique n c id v u there back p q = ascending-unique v u (p .ascends) (q .ascends) (λ g. same g (member g v) (member g u) refl refl)
   where
-    across : (c d : ℕ → ℕ) (v u : List ℕ) → Lists n c v → Lists n d u → ((x : ℕ) → x < n → Met n d (c x)) → (g : ℕ) → member g v ≡ true → member g u ≡ true
-    across c d v u p q there g h = let w = p .only g h in let z = there (w .0) (w .1) in subst (λ k. member k u ≡ true) (sym (w .2 ∙ z .2)) (q .all (z .0) (z .1))
+    across : (c d : ℕ → ℕ) (v u : List ℕ) → Lists n c v → Lists n d u → ((x : ℕ) → x < n → Met n d (c x)) → (g : ℕ) → member g v ≡ true
+        → member g u ≡ true
+    across c d v u p q there g h =
+        let w = p .only g h in
+        let z = there (w .0) (w .1) in
+        subst (λ k. member k u ≡ true) (sym (w .2 ∙ z .2)) (q .all (z .0) (z .1))
 
     same : (g : ℕ) (s t : Bool) → member g v ≡ s → member g u ≡ t → s ≡ t
     same g true true e f = refl
@@ -41,7 +46,7 @@ module _ (n t : ℕ) (faulty : ℕ → ℕ → ℕ) (id : ℕ → ℕ) (truth : 
   abbrev me : ℕ
   me = S .me
 
-  hears : (y x : ℕ) (m : Message) → y < n → x < n → x ≢ y → faulty x y ≡ 0 → Holds (M .base y) x m → Said m (N .log x)
+  hears : (y x : ℕ) (m : Message) → y < n → x < n → x ≢ y → faulty x y ≡ 0 → ViewHolds (M .base y) x m → Said m (N .log x)
   hears = heard-before n t faulty id truth N M I S
 
   grows : (x : ℕ) → Grows (N .base x) (M .base x)
@@ -49,7 +54,8 @@ module _ (n t : ℕ) (faulty : ℕ → ℕ → ℕ) (id : ℕ → ℕ) (truth : 
 
   -- ---- what good links tell, after the step
   heard-name : (y x : ℕ) → y < n → x < n → x ≢ y → faulty x y ≡ 0 → 1 ≤ M .base y .named x → M .base y .named x ≡ id x
-  heard-name y x ly lx ne good h = I .backed x (announce (M .base y .named x)) lx (hears y x (announce (M .base y .named x)) ly lx ne good (h, refl))
+  heard-name y x ly lx ne good h =
+      I .backed x (announce (M .base y .named x)) lx (hears y x (announce (M .base y .named x)) ly lx ne good (h, refl))
 
   heard-verify : (y x g : ℕ) → y < n → x < n → x ≢ y → faulty x y ≡ 0 → member g (M .base y .verifies x) ≡ true → Certified n (M .base x) g
   heard-verify y x g ly lx ne good h =
@@ -65,10 +71,12 @@ module _ (n t : ℕ) (faulty : ℕ → ℕ → ℕ) (id : ℕ → ℕ) (truth : 
     apart x y lx ly e = sound me (S .inside) .names-apart x y lx ly (prime .all-named x lx) e
 
     all-true : (x : ℕ) → x < n → Met n id (M .base me .named x)
-    all-true = names-true n t faulty id truth P (λ x. M .base x) (λ x l. sound x l .own-named) heard-name heard-verify me (S .inside) (prime .all-named) apart (prime .few-suspects)
+    all-true = names-true n t faulty id truth P (λ x. M .base x) (λ x l. sound x l .own-named) heard-name heard-verify me (S .inside)
+        (prime .all-named) apart (prime .few-suspects)
 
     true-all : (y : ℕ) → y < n → Certified n (M .base me) (id y)
-    true-all = truth-named n t faulty id truth P (λ x. M .base x) (λ x l. sound x l .own-named) heard-name heard-verify me (S .inside) (prime .all-named) apart (prime .few-suspects)
+    true-all = truth-named n t faulty id truth P (λ x. M .base x) (λ x l. sound x l .own-named) heard-name heard-verify me (S .inside)
+        (prime .all-named) apart (prime .few-suspects)
 
     prime-final : Lists n (M .base me .named) (M .base me .final) → M .base me .final ≡ truth
     prime-final h = lists-unique n (M .base me .named) id (M .base me .final) truth all-true true-all h (P .truth-lists)
@@ -91,10 +99,11 @@ module _ (n t : ℕ) (faulty : ℕ → ℕ → ℕ) (id : ℕ → ℕ) (truth : 
   ]
 
   secondary-after : (v : List ℕ) → Secondary n t (M .base me) v → (a : ℕ) × (a < n) × (N .base a .state ≡ 2)
-  secondary-after v h = elim (each-or-one n (λ x. N .base x .state ≤ 1) (λ x. 2 ≤ N .base x .state) (λ x l. running-or-stopped (N .base x .state))) [
-    | inl none ↦ absurd (omega (arith, h .tally, low-tally v (λ x l s q. absurd (omega (arith, none x l)))))
-    | inr w ↦ which (w .0) (w .1) (prime-or-secondary (N .base (w .0) .state) (w .2) (I .sound (w .0) (w .1) .states))
-  ]
+  secondary-after v h =
+      elim (each-or-one n (λ x. N .base x .state ≤ 1) (λ x. 2 ≤ N .base x .state) (λ x l. running-or-stopped (N .base x .state))) [
+        | inl none ↦ absurd (omega (arith, h .tally, low-tally v (λ x l s q. absurd (omega (arith, none x l)))))
+        | inr w ↦ which (w .0) (w .1) (prime-or-secondary (N .base (w .0) .state) (w .2) (I .sound (w .0) (w .1) .states))
+      ]
     where
       which : (x : ℕ) → x < n → (N .base x .state ≡ 2) ⊎ (N .base x .state ≡ 3) → (a : ℕ) × (a < n) × (N .base a .state ≡ 2)
       which x l (inl e) = (x, l, e)
@@ -116,7 +125,8 @@ module _ (n t : ℕ) (faulty : ℕ → ℕ → ℕ) (id : ℕ → ℕ) (truth : 
 
   knows-here : (y : ℕ) → y < n → M .base me .state ≡ 2 → Certified n (M .base me) (id y)
   knows-here y l s = elim (stopping (omega (arith, s))) [
-    | before k ↦ certified-grows n (N .base me) (M .base me) (grows me) (id y) (P .ids-above-zero y l) (I .prime-knows me y (S .inside) l (sym (grows me .stays k .0) ∙ s))
+    | before k ↦ certified-grows n (N .base me) (M .base me) (grows me) (id y) (P .ids-above-zero y l)
+        (I .prime-knows me y (S .inside) l (sym (grows me .stays k .0) ∙ s))
     | as-prime e p h ↦ true-all p y l
     | as-secondary e p ↦ absurd (omega (arith, s, e))
   ]
@@ -130,13 +140,15 @@ module _ (n t : ℕ) (faulty : ℕ → ℕ → ℕ) (id : ℕ → ℕ) (truth : 
 
   -- ---- all bases
   everywhere : (Q : ℕ → View → Type 0) → Q me (M .base me) → ((x : ℕ) → x ≢ me → Q x (N .base x)) → (x : ℕ) → Q x (M .base x)
-  everywhere Q here other = each-base n t faulty id N M S (λ x b log. Q x b) (subst (Q me) (S .base-here) here) other
+  everywhere Q here other = at-each-base n t faulty id N M S (λ x b log. Q x b) (subst (Q me) (S .base-here) here) other
 
   pub final-true-kept : (x : ℕ) → x < n → 2 ≤ M .base x .state → M .base x .final ≡ truth
   final-true-kept = everywhere (λ x b. x < n → 2 ≤ b .state → b .final ≡ truth) (λ l s. final-here s) (λ x ne l s. I .final-true x l s)
 
   pub prime-knows-kept : (x y : ℕ) → x < n → y < n → M .base x .state ≡ 2 → Certified n (M .base x) (id y)
-  prime-knows-kept = everywhere (λ x b. (y : ℕ) → x < n → y < n → b .state ≡ 2 → Certified n b (id y)) (λ y l k s. knows-here y k s) (λ x ne y l k s. I .prime-knows x y l k s)
+  prime-knows-kept = everywhere (λ x b. (y : ℕ) → x < n → y < n → b .state ≡ 2 → Certified n b (id y)) (λ y l k s. knows-here y k s)
+      (λ x ne y l k s. I .prime-knows x y l k s)
 
   pub prime-first-kept : (x : ℕ) → x < n → M .base x .state ≡ 3 → (a : ℕ) × (a < n) × (M .base a .state ≡ 2)
-  prime-first-kept = everywhere (λ x b. x < n → b .state ≡ 3 → (a : ℕ) × (a < n) × (M .base a .state ≡ 2)) (λ l s. first-here s) (λ x ne l s. still-prime (I .prime-first x l s))
+  prime-first-kept = everywhere (λ x b. x < n → b .state ≡ 3 → (a : ℕ) × (a < n) × (M .base a .state ≡ 2)) (λ l s. first-here s)
+      (λ x ne l s. still-prime (I .prime-first x l s))

@@ -10,11 +10,12 @@ use lib.Dec.{eqb}
 use Rattle.lists.specs.Choice.{and, or}
 use Rattle.lists.specs.Choice.Laws.{and-true}
 use Rattle.counting.specs.Counts.{count-cover, count-or, count-equal}
-use Rattle.counting.specs.Spread.{Reached, spread}
+use Rattle.counting.specs.Spread.{TouchedBy, spread}
 use Rattle.protocol.specs.Agreement.Views.{View, holdsOf, tallyOf}
 use Rattle.protocol.specs.Agreement.Invariant.{Premises}
 
-module _ (n t : ℕ) (faulty : ℕ → ℕ → ℕ) (id : ℕ → ℕ) (truth : List ℕ) (P : Premises n t faulty id truth) (b : View) (y : ℕ) (S : ℕ → Bool) where
+module _ (n t : ℕ) (faulty : ℕ → ℕ → ℕ) (id : ℕ → ℕ) (truth : List ℕ) (P : Premises n t faulty id truth) (b : View) (y : ℕ)
+    (S : ℕ → Bool) where
   -- a base other than y from which y does not hold the truth
   misses : ℕ → Bool
   misses x = and (not (eqb y x)) (not (holdsOf b truth x))
@@ -28,7 +29,7 @@ module _ (n t : ℕ) (faulty : ℕ → ℕ → ℕ) (id : ℕ → ℕ) (truth : 
       go false true = inr (unfold or in refl)
       go false false = inr (unfold or and in refl)
 
-  pub tally-enough : ((x : ℕ) → x < n → x ≢ y → holdsOf b truth x ≡ false → (S x ≡ false) × Reached n faulty S x) → t < tallyOf n b truth
+  pub tally-enough : ((x : ℕ) → x < n → x ≢ y → holdsOf b truth x ≡ false → (S x ≡ false) × TouchedBy n faulty S x) → t < tallyOf n b truth
   unfolding tallyOf
   tally-enough reached = omega (
     arith,
@@ -40,6 +41,6 @@ module _ (n t : ℕ) (faulty : ℕ → ℕ → ℕ) (id : ℕ → ℕ) (truth : 
     count-equal n y,
   )
     where
-      missed : (x : ℕ) → x < n → misses x ≡ true → (S x ≡ false) × Reached n faulty S x
+      missed : (x : ℕ) → x < n → misses x ≡ true → (S x ≡ false) × TouchedBy n faulty S x
       missed x l h = unfold misses in let w = and-true (not (eqb y x)) (not (holdsOf b truth x)) h in
           reached x l (λ e. eqb-false y x (not-true (eqb y x) (w .0)) (sym e)) (not-true (holdsOf b truth x) (w .1))

@@ -1,5 +1,5 @@
--- The prime check and the secondary check hold of a record exactly if they hold of its view: the tallies' sum and the suspect pairs, counted over links, are
--- those counted over bases.
+-- The prime check and the secondary check hold of a record exactly if they hold of its view:
+-- the tallies' sum and the suspect pairs, counted over links, are those counted over bases.
 use Prim.Native.Nat.{ℕ, _+_, _*_, _-_, _≤_, _<_}
 use mathlib.Core.Path.{_≡_, refl, sym, ap, ap₂, _∙_, subst}
 use mathlib.Core.Logic.{_≢_}
@@ -21,15 +21,17 @@ use Rattle.counting.specs.Gap.{skip, pairs-skip}
 use Rattle.protocol.specs.declared.Link.{Link}
 use Rattle.protocol.specs.declared.Base.{Base}
 use Rattle.protocol.specs.Links.{announces, verifiesOf, holdsVerify}
-use Rattle.protocol.specs.Record.{linkAt, linkCount, links, certified, tally, tallySum, suspectPair, suspectOwn, suspects, listTally, correctCount}
+use Rattle.protocol.specs.Record.{linkAt, linkCount, links, certified, tally, tallySum}
+use Rattle.protocol.specs.Record.{suspectPair, suspectOwn, suspects, listTally, correctCount}
 use Rattle.protocol.specs.Record.Laws.{link-count}
 use Rattle.protocol.specs.Steps.{primeHolds, secondaryHolds}
 use Rattle.protocol.specs.Agreement.Views.{View, lacks, suspect, Prime, Secondary, Lists}
 use Rattle.protocol.specs.Agreement.Suspects.{lacks-own, lacks-other, suspect-self, suspect-symmetric, suspect-apart}
 use Rattle.protocol.specs.Agreement.Observers.{placeOf, view}
 use Rattle.protocol.specs.Agreement.Observers.Places.{place-skip, skip-other, link-skip}
-use Rattle.protocol.specs.Agreement.Observers.Counts.{Inside, size, links-seen, corrects-seen, tally-seen}
-use Rattle.protocol.specs.Agreement.Observers.Names.{named-own, named-skip, named-certified, certified-named, full-named, all-announce, named-full, certified-sum}
+use Rattle.protocol.specs.Agreement.Observers.Counts.{Inside, net-size, links-seen, corrects-seen, tally-seen}
+use Rattle.protocol.specs.Agreement.Observers.Names.{named-own, named-skip, named-certified, certified-named}
+use Rattle.protocol.specs.Agreement.Observers.Names.{full-named, all-announce, named-full, certified-sum}
 
 module _ (me : ℕ) (b : Base) (H : Inside me b) where
   abbrev n : ℕ
@@ -48,7 +50,8 @@ module _ (me : ℕ) (b : Base) (H : Inside me b) where
 
   pub seen-secondary : (v : List ℕ) → Secondary n (b .t) see v → secondaryHolds b v ≡ true
   unfolding secondaryHolds
-  seen-secondary v S = and-both (le-leb (b .t + 1) (listTally b v) (omega (arith, S .tally, tally-seen me b H v))) (le-leb 2 (correctCount b v) (omega (arith, S .two, corrects-seen me b H v)))
+  seen-secondary v S = and-both (le-leb (b .t + 1) (listTally b v) (omega (arith, S .tally, tally-seen me b H v)))
+      (le-leb 2 (correctCount b v) (omega (arith, S .two, corrects-seen me b H v)))
 
   -- ---- the prime check: Verifies and suspect pairs
   verify-skip : (i g : ℕ) → member g (see .verifies (skip me i)) ≡ holdsVerify (linkAt b i) g
@@ -62,7 +65,8 @@ module _ (me : ℕ) (b : Base) (H : Inside me b) where
     tally-named x l = ap₂ _+_ verified (ap bit (named-certified me b H x l (all-named x l)))
       where
         verified : links b (λ (k : Link). holdsVerify k (see .named x)) ≡ sum n (λ y. bit (member (see .named x) (see .verifies y)))
-        verified = unfold view count holdsVerify verifiesOf member in links-seen me b H (λ (k : Link). member (view me b .named x) (verifiesOf k)) refl
+        verified = unfold view count holdsVerify verifiesOf member in links-seen me b H
+            (λ (k : Link). member (view me b .named x) (verifiesOf k)) refl
 
     tallies-seen : tallySum b ≡ n + total n (λ x y. bit (member (see .named y) (see .verifies x)))
     unfolding tallySum total
@@ -95,7 +99,9 @@ module _ (me : ℕ) (b : Base) (H : Inside me b) where
     own-seen : (i : ℕ) → i < n - 1 → bit (suspectOwn (b .own) (linkAt b i)) ≡ suspect me see (skip me i) me
     unfolding suspectOwn and
     own-seen i l = rw (announce-skip i l)
-        (sym (suspect-apart me see (skip me i) me (skip-other me i) ∙ ap₂ (λ p q. bit (or p q)) lacks-own-name (lacks-own me see me (skip me i) refl) ∙ ap bit (or-none (not (holdsVerify (linkAt b i) (b .own))))))
+        (sym (suspect-apart me see (skip me i) me (skip-other me i)
+        ∙ ap₂ (λ p q. bit (or p q)) lacks-own-name (lacks-own me see me (skip me i) refl)
+        ∙ ap bit (or-none (not (holdsVerify (linkAt b i) (b .own))))))
       where
         lacks-own-name : lacks me see (skip me i) me ≡ not (holdsVerify (linkAt b i) (b .own))
         lacks-own-name = lacks-skip i me ∙ ap (λ g. not (holdsVerify (linkAt b i) g)) (named-own me b)
@@ -113,7 +119,7 @@ module _ (me : ℕ) (b : Base) (H : Inside me b) where
 
     suspects-seen : suspects b ≡ pairs n (suspect me see)
     unfolding suspects links
-    suspects-seen = subst (λ k. between (linkCount b) + with-own (linkCount b) ≡ pairs k (suspect me see)) (size me b H) (omega (
+    suspects-seen = subst (λ k. between (linkCount b) + with-own (linkCount b) ≡ pairs k (suspect me see)) (net-size me b H) (omega (
       arith,
       ap between (link-count b (H .net)),
       ap with-own (link-count b (H .net)),

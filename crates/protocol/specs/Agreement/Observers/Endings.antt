@@ -1,5 +1,5 @@
--- The ways in which a message that arrives at a running base ends, as calls that the argument knows: it is discarded, or it is stored and the prime check or
--- the secondary check follows.
+-- The ways in which a message that arrives at a running base ends, as calls that the argument
+-- knows: it is discarded, or it is stored and the prime check or the secondary check follows.
 use Prim.Native.Nat.{ℕ, _+_, _-_, _≤_, _<_, min}
 use mathlib.Core.Path.{_≡_, refl, sym, ap, _∙_, subst, subst₂}
 use mathlib.Core.Logic.{_≢_, inl}
@@ -9,7 +9,7 @@ use native.Mathlib.Omega.{arith}
 use borrow.Author.Tests.{eqb-true, leb-true}
 use lib.ListN.{length, length-take}
 use Rattle.limits.specs.Limits.{mostBases, mostLinks}
-use Rattle.lists.specs.Choice.{choose, and, or}
+use Rattle.lists.specs.Choice.{choose, or}
 use Rattle.lists.specs.Choice.Laws.{choose-ind, and-true, clash}
 use Rattle.lists.specs.Lists.{sort}
 use Rattle.lists.specs.Lists.Laws.{pad-front}
@@ -24,13 +24,15 @@ use Rattle.protocol.specs.Record.{linkAt, certified, finalList, links}
 use Rattle.protocol.specs.Record.Memory.{Sized}
 use Rattle.protocol.specs.Sound.Laws.{count-room}
 use Rattle.protocol.specs.Sound.Running.{Runs, runs-admitted}
-use Rattle.protocol.specs.Steps.{Done, discards, accepts, withSent, withState, withFinal, primeHolds, secondaryHolds, stops, primeCheck, secondaryCheck, vote}
+use Rattle.protocol.specs.Steps.{Done, discards, accepts, withSent, withState, withFinal}
+use Rattle.protocol.specs.Steps.{primeHolds, secondaryHolds, stops, primeCheck, secondaryCheck, vote}
 use Rattle.protocol.specs.Steps.Laws.{SameSetting}
 use Rattle.protocol.specs.Agreement.Views.{View, Prime, Secondary, Lists}
-use Rattle.protocol.specs.Agreement.Calls.{Input, arrival, Settled, Full, Taken, before, Call}
+use Rattle.protocol.specs.Agreement.Calls.{ViewInput, arrival, Settled, Full, Taken, before, ViewCall}
 use Rattle.protocol.specs.Agreement.Growth.{grows-not}
 use Rattle.protocol.specs.Agreement.Storing.{Vector, ListOf, Stored}
-use Rattle.protocol.specs.Agreement.Accepting.{Telling, Ending, runs-on, ends-prime, ends-secondary, closing, closing-secondary, secondary-closing, accepted-call}
+use Rattle.protocol.specs.Agreement.Accepting.{Saying, Ending, runs-on, ends-prime, ends-secondary}
+use Rattle.protocol.specs.Agreement.Accepting.{closing, closing-secondary, secondary-closing, accepted-call}
 use Rattle.protocol.specs.Agreement.Observers.{placeOf, linkFor, view}
 use Rattle.protocol.specs.Agreement.Observers.Places.{place-inside, link-other}
 use Rattle.protocol.specs.Agreement.Observers.Counts.{Inside}
@@ -38,7 +40,8 @@ use Rattle.protocol.specs.Agreement.Observers.Names.{named-other}
 use Rattle.protocol.specs.Agreement.Observers.Checks.{secondary-seen, seen-secondary, prime-seen, seen-prime, sorted-lists}
 
 -- ---- a call that changes nothing
-pub unchanged-call : (n t me own : ℕ) (i : Input) (b : View) → Settled n t me b → 1 ≤ b .state → ((x : ℕ) (m : Message) → i ≡ arrival x m → b .state ≤ 1 → Taken n b b x m) → Call n t me own i b b []
+pub unchanged-call : (n t me own : ℕ) (i : ViewInput) (b : View) → Settled n t me b → 1 ≤ b .state
+    → ((x : ℕ) (m : Message) → i ≡ arrival x m → b .state ≤ 1 → Taken n b b x m) → ViewCall n t me own i b b []
 unchanged-call n t me own i b settled on taken = record {
   grows = grows-not b;
   runs = on;
@@ -49,18 +52,27 @@ unchanged-call n t me own i b settled on taken = record {
   backed = λ m h. absurd (List·Memᴰ·not-nil h);
   vote-first = λ v h. absurd (List·Memᴰ·not-nil h);
   vote-one = λ v u h k. absurd (List·Memᴰ·not-nil h);
-  start-told = λ s. inl s;
-  names-told = λ x l h. inl (on, refl);
-  vote-told = λ s. inl s;
-  stop-told = λ s. inl s;
+  start-said = λ s. inl s;
+  names-said = λ x l h. inl (on, refl);
+  vote-said = λ s. inl s;
+  stop-said = λ s. inl s;
 }
 
 -- ---- the views that the checks leave
 runs-view : (me : ℕ) (c : Base) → c .state ≡ 1 → view me c ≡ closing (view me c) 1 (c .sent) (view me c .final)
 unfolding view closing
-runs-view me c e = λ j. record { state = e j; sent = c .sent; final = finalList c; named = view me c .named; verifies = view me c .verifies; correct = view me c .correct; vote = view me c .vote }
+runs-view me c e = λ j. record {
+  state = e j;
+  sent = c .sent;
+  final = finalList c;
+  named = view me c .named;
+  verifies = view me c .verifies;
+  correct = view me c .correct;
+  vote = view me c .vote;
+}
 
-stops-view : (me : ℕ) (c : Base) (state : ℕ) (v : List ℕ) (said : List Message) → length v ≡ c .n → view me (stops c state v said .base) ≡ closing (view me c) state (c .sent) v
+stops-view : (me : ℕ) (c : Base) (state : ℕ) (v : List ℕ) (said : List Message) → length v ≡ c .n
+    → view me (stops c state v said .base) ≡ closing (view me c) state (c .sent) v
 unfolding view closing stops accepts withState withFinal finalList linkFor linkAt
 stops-view me c state v said e = λ j. record {
   state = state;
@@ -72,7 +84,8 @@ stops-view me c state v said e = λ j. record {
   vote = view me c .vote;
 }
 
-pub sent-closing : (me : ℕ) (c : Base) (state sent : ℕ) (final : List ℕ) → closing (view me (withSent c)) state sent final ≡ closing (view me c) state sent final
+pub sent-closing : (me : ℕ) (c : Base) (state sent : ℕ) (final : List ℕ)
+    → closing (view me (withSent c)) state sent final ≡ closing (view me c) state sent final
 unfolding closing view withSent linkFor linkAt
 sent-closing me c state sent final = refl
 
@@ -84,7 +97,8 @@ valid-length n (verify g) v h w = absurd h
 valid-length n (correctFinal u) v h w = ap length (sym h) ∙ w .count
 valid-length n (verifyFinal u) v h w = ap length (sym h) ∙ w .count
 
-module _ (me : ℕ) (b : Base) (inside : me < b .n) (R : Runs b) (S : Sized b) (settled : Settled (b .n) (b .t) me (view me b)) (x : ℕ) (x-in : x < b .n) (ne : x ≢ me) where
+module _ (me : ℕ) (b : Base) (inside : me < b .n) (R : Runs b) (S : Sized b) (settled : Settled (b .n) (b .t) me (view me b)) (x : ℕ)
+    (x-in : x < b .n) (ne : x ≢ me) where
   abbrev n : ℕ
   n = b .n
 
@@ -110,7 +124,7 @@ module _ (me : ℕ) (b : Base) (inside : me < b .n) (R : Runs b) (S : Sized b) (
   fits = omega (arith, below, R .standing .net .most, S .links)
 
   abbrev CallOf : Message → Done → Type 0
-  CallOf m d = Call n t me (b .own) (arrival x m) see (view me (d .base)) (d .says)
+  CallOf m d = ViewCall n t me (b .own) (arrival x m) see (view me (d .base)) (d .says)
 
   running : see .state ≡ 1
   unfolding view
@@ -122,7 +136,10 @@ module _ (me : ℕ) (b : Base) (inside : me < b .n) (R : Runs b) (S : Sized b) (
   discarded-call m taken = unchanged-call n t me (b .own) (arrival x m) see settled (omega (arith, running)) (λ y w e s. moved y w e)
     where
       moved : (y : ℕ) (w : Message) → arrival x m ≡ arrival y w → Taken n see see y w
-      moved y w e = let p : x ≡ y = cc in let q : m ≡ w = cc in subst (λ z. Taken n see see z w) p (subst (λ z. Taken n see see x z) q taken)
+      moved y w e =
+          let p : x ≡ y = cc in
+          let q : m ≡ w = cc in
+          subst (λ z. Taken n see see z w) p (subst (λ z. Taken n see see x z) q taken)
 
   pub full-seen : full n link ≡ true → Full n see x
   unfolding full used view
@@ -132,7 +149,8 @@ module _ (me : ℕ) (b : Base) (inside : me < b .n) (R : Runs b) (S : Sized b) (
       here = omega (arith, below, R .standing .net .most)
 
       counted : length (verifiesOf link) ≡ link .«verify_count»
-      counted = unfold verifiesOf in omega (arith, length-take (link .«verify_count») (link .verifies), count-room b (runs-admitted R) i here, S .each i here .verifies)
+      counted = unfold verifiesOf in omega
+          (arith, length-take (link .«verify_count») (link .verifies), count-room b (runs-admitted R) i here, S .each i here .verifies)
 
       length-verifies : length (verifiesOf (linkFor me b x)) ≡ link .«verify_count»
       length-verifies = ap (λ (l : Link). length (verifiesOf l)) (link-other me b x ne) ∙ counted
@@ -147,7 +165,7 @@ module _ (me : ℕ) (b : Base) (inside : me < b .n) (R : Runs b) (S : Sized b) (
   -- ---- accepted: c holds the message, and perhaps a Verify-Final was sent
   module _ (m : Message) (w : Valid n m) (c₀ c : Base) (stored : Stored x m see (view me c₀)) (same : SameSetting b c) (Rc : Runs c)
       (closes : (state sent : ℕ) (final : List ℕ) → closing (view me c) state sent final ≡ closing (view me c₀) state sent final)
-      (said : List Message) (T : Telling n m see (view me c₀) (c .sent) said) where
+      (said : List Message) (T : Saying n m see (view me c₀) (c .sent) said) where
     Hc : Inside me c
     Hc = record { net = Rc .standing .net; inside = subst (λ k. me < k) (sym (same .n)) inside }
 
@@ -155,16 +173,21 @@ module _ (me : ℕ) (b : Base) (inside : me < b .n) (R : Runs b) (S : Sized b) (
     view-closing : view me c ≡ closing (view me c₀) 1 (c .sent) (view me c .final)
     view-closing = runs-view me c (Rc .state) ∙ closes 1 (c .sent) (view me c .final)
 
-    ends : {state : ℕ} {final : List ℕ} {out : List Message} → Ending n t me m (view me c₀) state final out → Call n t me (b .own) (arrival x m) see (closing (view me c₀) state (c .sent) final) (said ++ out)
-    ends {state} {final} {out} E = accepted-call n t me (b .own) x x-in m see (view me c₀) stored running settled (c .sent) state final said out T E
+    ends : {state : ℕ} {final : List ℕ} {out : List Message} → Ending n t me m (view me c₀) state final out
+        → ViewCall n t me (b .own) (arrival x m) see (closing (view me c₀) state (c .sent) final) (said ++ out)
+    ends {state} {final} {out} E =
+        accepted-call n t me (b .own) x x-in m see (view me c₀) stored running settled (c .sent) state final said out T E
 
-    goes-on : ((Vector m → ⊥) → Prime n t me (view me c₀) → ⊥) → ((v : List ℕ) → ListOf m v → Secondary n t (view me c₀) v → ⊥) → view me c .final ≡ view me c₀ .final → CallOf m (accepts c said)
+    goes-on : ((Vector m → ⊥) → Prime n t me (view me c₀) → ⊥) → ((v : List ℕ) → ListOf m v → Secondary n t (view me c₀) v → ⊥)
+        → view me c .final ≡ view me c₀ .final → CallOf m (accepts c said)
     unfolding accepts
-    goes-on not-prime not-secondary same-final = subst₂ (λ u o. Call n t me (b .own) (arrival x m) see u o)
+    goes-on not-prime not-secondary same-final = subst₂ (λ u o. ViewCall n t me (b .own) (arrival x m) see u o)
         (sym (view-closing ∙ ap (closing (view me c₀) 1 (c .sent)) same-final)) (append-nil said) (ends (runs-on not-prime not-secondary))
 
-    stops-call : (state : ℕ) (v : List ℕ) → length v ≡ n → Ending n t me m (view me c₀) state v (correctFinal v ∷ []) → CallOf m (stops c state v said)
-    stops-call state v whole E = unfold stops accepts in subst (λ u. Call n t me (b .own) (arrival x m) see u (said ++ (correctFinal v ∷ [])))
+    stops-call : (state : ℕ) (v : List ℕ) → length v ≡ n → Ending n t me m (view me c₀) state v (correctFinal v ∷ [])
+        → CallOf m (stops c state v said)
+    stops-call state v whole E =
+        unfold stops accepts in subst (λ u. ViewCall n t me (b .own) (arrival x m) see u (said ++ (correctFinal v ∷ [])))
         (sym (stops-view me c state v said (whole ∙ sym (same .n)) ∙ closes state (c .sent) v)) (ends E)
 
     -- "then the secondary check on V"
@@ -172,7 +195,8 @@ module _ (me : ℕ) (b : Base) (inside : me < b .n) (R : Runs b) (S : Sized b) (
     unfolding secondaryCheck
     secondary-call v list vector same-final = choose-ind (CallOf m) (secondaryHolds c v)
         (λ e. stops-call 3 v (valid-length n m v list w) (ends-secondary v (back v (secondary-seen me c Hc v e))))
-        (λ e. goes-on (λ h. absurd (h vector)) (λ u h P. clash (seen-secondary me c Hc v (there v (subst (Secondary n t (view me c₀)) (sym (only u h)) P))) e) same-final)
+        (λ e. goes-on (λ h. absurd (h vector))
+        (λ u h P. clash (seen-secondary me c Hc v (there v (subst (Secondary n t (view me c₀)) (sym (only u h)) P))) e) same-final)
       where
         only : (u : List ℕ) → ListOf m u → v ≡ u
         only u h = go m list h
@@ -184,22 +208,26 @@ module _ (me : ℕ) (b : Base) (inside : me < b .n) (R : Runs b) (S : Sized b) (
             go (verifyFinal k) p q = sym p ∙ q
 
         back : (u : List ℕ) → Secondary (c .n) (c .t) (view me c) u → Secondary n t (view me c₀) u
-        back u P = closing-secondary n t (view me c₀) 1 (c .sent) (view me c .final) u (subst (λ z. Secondary n t z u) view-closing (subst₂ (λ a d. Secondary a d (view me c) u) (same .n) (same .t) P))
+        back u P = closing-secondary n t (view me c₀) 1 (c .sent) (view me c .final) u
+            (subst (λ z. Secondary n t z u) view-closing (subst₂ (λ a d. Secondary a d (view me c) u) (same .n) (same .t) P))
 
         there : (u : List ℕ) → Secondary n t (view me c₀) u → Secondary (c .n) (c .t) (view me c) u
-        there u P = subst₂ (λ a d. Secondary a d (view me c) u) (sym (same .n)) (sym (same .t)) (subst (λ z. Secondary n t z u) (sym view-closing) (secondary-closing n t (view me c₀) 1 (c .sent) (view me c .final) u P))
+        there u P = subst₂ (λ a d. Secondary a d (view me c) u) (sym (same .n)) (sym (same .t))
+            (subst (λ z. Secondary n t z u) (sym view-closing) (secondary-closing n t (view me c₀) 1 (c .sent) (view me c .final) u P))
 
   -- "then the prime check", where c holds the message and nothing else is new
   module _ (m : Message) (w : Valid n m) (c : Base) (stored : Stored x m see (view me c)) (same : SameSetting b c) (Rc : Runs c)
-      (said : List Message) (T : Telling n m see (view me c) (c .sent) said) (no-list : (v : List ℕ) → ListOf m v → ⊥) where
+      (said : List Message) (T : Saying n m see (view me c) (c .sent) said) (no-list : (v : List ℕ) → ListOf m v → ⊥) where
     Hp : Inside me c
     Hp = record { net = Rc .standing .net; inside = subst (λ k. me < k) (sym (same .n)) inside }
 
     pub prime-call : CallOf m (primeCheck c said)
     unfolding primeCheck
     prime-call = choose-ind (CallOf m) (primeHolds c)
-        (λ e. stops-call m w c c stored same Rc (λ s p f. refl) said T 2 (sort (certified c)) (whole e) (ends-prime (sort (certified c)) (to-net (prime-seen me c Hp (Rc .standing .own) e)) (lists e)))
-        (λ e. goes-on m w c c stored same Rc (λ s p f. refl) said T (λ h P. clash (seen-prime me c Hp (from-net P)) e) (λ v h. absurd (no-list v h)) refl)
+        (λ e. stops-call m w c c stored same Rc (λ s p f. refl) said T 2 (sort (certified c)) (whole e)
+        (ends-prime (sort (certified c)) (to-net (prime-seen me c Hp (Rc .standing .own) e)) (lists e)))
+        (λ e. goes-on m w c c stored same Rc (λ s p f. refl) said T (λ h P. clash (seen-prime me c Hp (from-net P)) e)
+        (λ v h. absurd (no-list v h)) refl)
       where
         to-net : Prime (c .n) (c .t) me (view me c) → Prime n t me (view me c)
         to-net P = subst₂ (λ a d. Prime a d me (view me c)) (same .n) (same .t) P
@@ -214,4 +242,5 @@ module _ (me : ℕ) (b : Base) (inside : me < b .n) (R : Runs b) (S : Sized b) (
             full-count = unfold primeHolds in eqb-true (length (certified c)) (c .n) (and-true _ _ e .0)
 
         lists : primeHolds c ≡ true → Lists n (view me c .named) (sort (certified c))
-        lists e = subst (λ k. Lists k (view me c .named) (sort (certified c))) (same .n) (sorted-lists me c Hp (prime-seen me c Hp (Rc .standing .own) e .all-named) (Rc .standing .apart))
+        lists e = subst (λ k. Lists k (view me c .named) (sort (certified c))) (same .n)
+            (sorted-lists me c Hp (prime-seen me c Hp (Rc .standing .own) e .all-named) (Rc .standing .apart))

@@ -1,4 +1,5 @@
--- One link takes a message in, for each kind: what it held stays, but that a Correct-Final replaces a Verify-Final, and nothing is new but the message.
+-- One link takes a message in, for each kind: what it held stays, but that a
+-- Correct-Final replaces a Verify-Final, and nothing is new but the message.
 use Prim.Native.Nat.{ℕ, _≤_, _<_}
 use mathlib.Core.Path.{_≡_, refl, sym, ap, _∙_}
 use mathlib.Core.Logic.{_≢_, _⊎_, inl, inr}
@@ -34,7 +35,8 @@ pub record Changes (n : ℕ) (m : Message) (old new : Link) : Type 0 where
   pub keeps-name : 1 ≤ old .announce → new .announce ≡ old .announce
   pub keeps-verify : (g : ℕ) → holdsVerify old g ≡ true → holdsVerify new g ≡ true
   pub keeps-correct : (v : List ℕ) → holdsCorrect n old v ≡ true → holdsCorrect n new v ≡ true
-  pub keeps-vote : (v : List ℕ) → holdsVerifyFinal n old v ≡ true → (holdsVerifyFinal n new v ≡ true) ⊎ ((u : List ℕ) × (holdsCorrect n new u ≡ true))
+  pub keeps-vote : (v : List ℕ) → holdsVerifyFinal n old v ≡ true
+      → (holdsVerifyFinal n new v ≡ true) ⊎ ((u : List ℕ) × (holdsCorrect n new u ≡ true))
   pub heard : (w : Message) → LinkHolds n new w → LinkHolds n old w ⊎ (w ≡ m)
   pub here : LinkHolds n new m
 
@@ -58,7 +60,8 @@ announce-changes n l g above silent = record {
 
 verify-added : (l : Link) (g : ℕ) → l .«verify_count» < length (l .verifies) → verifiesOf (withVerify l g) ≡ verifiesOf l ++ (g ∷ [])
 unfolding verifiesOf withVerify
-verify-added l g room = ap (λ k. take k (set (l .verifies) (l .«verify_count») g)) (add-one (l .«verify_count»)) ∙ take-suc-set (l .verifies) (l .«verify_count») g room
+verify-added l g room = ap (λ k. take k (set (l .verifies) (l .«verify_count») g)) (add-one (l .«verify_count»))
+    ∙ take-suc-set (l .verifies) (l .«verify_count») g room
 
 pub verify-changes : (n : ℕ) (l : Link) (g : ℕ) → l .«verify_count» < length (l .verifies) → Changes n (verify g) l (withVerify l g)
 unfolding holdsVerify holdsCorrect holdsVerifyFinal holdsVector
@@ -73,14 +76,19 @@ verify-changes n l g room = record {
   where
     heard : (w : Message) → LinkHolds n (withVerify l g) w → LinkHolds n l w ⊎ (w ≡ verify g)
     heard (announce k) h = inl (unfold withVerify in h)
-    heard (verify k) h = elim (member-snoc-cases k (verifiesOf l) g (ap (member k) (sym (verify-added l g room)) ∙ h)) [ inl e ↦ inl e | inr e ↦ inr (ap verify (sym e)) ]
+    heard (verify k) h = elim (member-snoc-cases k (verifiesOf l) g (ap (member k) (sym (verify-added l g room)) ∙ h)) [
+      | inl e ↦ inl e
+      | inr e ↦ inr (ap verify (sym e))
+    ]
     heard (correctFinal v) h = inl (unfold withVerify in h)
     heard (verifyFinal v) h = inl (unfold withVerify in h)
 
 -- ---- a vector message replaces what is held, and leaves the rest alone
 vector-cases : (n kind : ℕ) (l : Link) (v : List ℕ) → holdsVector n kind l v ≡ true → (l .held ≡ kind) × (take n (l .list) ≡ v)
 unfolding holdsVector
-vector-cases n kind l v e = let p = and-true (eqb (l .held) kind) (sameList (take n (l .list)) v) e in (eqb-true (l .held) kind (p .0), same-equal (take n (l .list)) v (p .1))
+vector-cases n kind l v e =
+    let p = and-true (eqb (l .held) kind) (sameList (take n (l .list)) v) e in
+    (eqb-true (l .held) kind (p .0), same-equal (take n (l .list)) v (p .1))
 
 pub correct-cases : (n : ℕ) (l : Link) (v : List ℕ) → holdsCorrect n l v ≡ true → (l .held ≡ 3) × (take n (l .list) ≡ v)
 unfolding holdsCorrect
@@ -113,7 +121,8 @@ module _ (n : ℕ) (l : Link) (v : List ℕ) (whole : length v ≡ n) where
   vote-here : holdsVerifyFinal n (withVector l 4 v) v ≡ true
   vote-here = subst-list (held-vote n (withVector l 4 v) (unfold withVector in refl))
     where
-      subst-list : holdsVerifyFinal n (withVector l 4 v) (take n (withVector l 4 v .list)) ≡ true → holdsVerifyFinal n (withVector l 4 v) v ≡ true
+      subst-list : holdsVerifyFinal n (withVector l 4 v) (take n (withVector l 4 v .list)) ≡ true
+          → holdsVerifyFinal n (withVector l 4 v) v ≡ true
       subst-list h = ap (holdsVerifyFinal n (withVector l 4 v)) (sym (stored-list 4)) ∙ h
 
   kind-of : (kind : ℕ) → withVector l kind v .held ≡ kind

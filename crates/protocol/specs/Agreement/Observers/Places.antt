@@ -1,5 +1,5 @@
--- The numbering of links, from 0: the place of the link to x, and x as the i-th base that is not the base itself, undo each other. So the links of a base and
--- the other bases of the net are the same in another order.
+-- The numbering of links, from 0: the place of the link to x, and x as the i-th base that is not the base itself, undo each other. So the
+-- links of a base and the other bases of the net are the same in another order.
 use Prim.Native.Nat.{ℕ, suc, _-_, _≤_, _<_}
 use mathlib.Core.Path.{_≡_, refl, sym, ap, _∙_, subst}
 use mathlib.Core.Logic.{_≢_}
@@ -46,10 +46,16 @@ skip-other me i = elim (decLt i me) [
 ]
 
 pub skip-inside : (me i n : ℕ) → me < n → i < n - 1 → skip me i < n
-skip-inside me i n l h = elim (decLt i me) [ yes k ↦ omega (arith, skip-low me i k) | no k ↦ omega (arith, skip-high me i (omega (arith, k))) ]
+skip-inside me i n l h = elim (decLt i me) [
+  | yes k ↦ omega (arith, skip-low me i k)
+  | no k ↦ omega (arith, skip-high me i (omega (arith, k)))
+]
 
 pub place-inside : (me x n : ℕ) → me < n → x < n → x ≢ me → placeOf me x < n - 1
-place-inside me x n lm lx ne = elim (decLt x me) [ yes h ↦ omega (arith, place-low me x h) | no h ↦ omega (arith, place-high me x (omega (arith, h)), ne, h) ]
+place-inside me x n lm lx ne = elim (decLt x me) [
+  | yes h ↦ omega (arith, place-low me x h)
+  | no h ↦ omega (arith, place-high me x (omega (arith, h)), ne, h)
+]
 
 pub place-apart : (me x y : ℕ) → x ≢ me → y ≢ me → placeOf me x ≡ placeOf me y → x ≡ y
 place-apart me x y nx ny e = sym (skip-place me x nx) ∙ ap (skip me) e ∙ skip-place me y ny
@@ -85,5 +91,10 @@ link-stored P me b x l ne fits here other y = go (ℕ-discrete y x) (ℕ-discret
   where
     go : Dec (y ≡ x) → Dec (y ≡ me) → P y (linkFor me (withLink b (placeOf me x) l) y)
     go (yes e) d = rw e (subst (P x) (sym (link-other me (withLink b (placeOf me x) l) x ne ∙ stored-same b (placeOf me x) l fits)) here)
-    go (no e) (yes q) = subst (P y) (ap (linkFor me b) q ∙ link-own me b ∙ sym (ap (linkFor me (withLink b (placeOf me x) l)) q ∙ link-own me (withLink b (placeOf me x) l))) (other y e)
-    go (no e) (no q) = subst (P y) (link-other me b y q ∙ sym (link-other me (withLink b (placeOf me x) l) y q ∙ stored-other b (placeOf me x) l (placeOf me y) (λ r. e (place-apart me y x q ne r)))) (other y e)
+    go (no e) (yes q) = subst (P y)
+        (ap (linkFor me b) q ∙ link-own me b
+        ∙ sym (ap (linkFor me (withLink b (placeOf me x) l)) q ∙ link-own me (withLink b (placeOf me x) l))) (other y e)
+    go (no e) (no q) = subst (P y)
+        (link-other me b y q
+        ∙ sym (link-other me (withLink b (placeOf me x) l) y q
+        ∙ stored-other b (placeOf me x) l (placeOf me y) (λ r. e (place-apart me y x q ne r)))) (other y e)

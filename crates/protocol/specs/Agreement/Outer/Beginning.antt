@@ -1,5 +1,5 @@
--- From the statement to the inner theorem: its premises hold, the net at the beginning follows a fresh group, and so the net after any list of events follows a
--- group that was reached.
+-- From the statement to the inner theorem: its premises hold, the net at the beginning follows
+-- a fresh group, and so the net after any list of events follows a group that was reached.
 use Prim.Native.Nat.{ℕ, zero, suc, _+_, _*_, _≤_, _<_}
 use mathlib.Core.Path.{_≡_, refl}
 use mathlib.Core.Logic.{inr}
@@ -15,7 +15,7 @@ use Rattle.protocol.specs.Net.{Net, Pair, Event, run, started}
 use Rattle.protocol.specs.Agreement.{BaseOf, Setting, Fresh, AllProper, trueIdentifiers}
 use Rattle.protocol.specs.Agreement.Invariant.{Premises}
 use Rattle.protocol.specs.Agreement.Inner.{Group, fresh}
-use Rattle.protocol.specs.Agreement.Inner.Theorem.{Stands, stands, inner}
+use Rattle.protocol.specs.Agreement.Inner.Theorem.{GroupInvariant, group-invariant}
 use Rattle.protocol.specs.Agreement.Outer.Faulty.{table, table-symmetric, table-total}
 use Rattle.protocol.specs.Agreement.Outer.Truth.{trueOf, truth-listed}
 use Rattle.protocol.specs.Agreement.Outer.Follows.{Follows}
@@ -85,7 +85,7 @@ module _ (n t : ℕ) (faulty : List Pair) (W : Net) (S : Setting n t faulty) (F 
       silent = λ x l. refl;
       nothing = λ x y k. refl;
     });
-    shows = record {
+    matches = record {
       base = λ x l. refl;
       log = λ x l. F .silent (suc x) (here x l);
       carried = λ x y k. F .uncarried (suc x) (suc y) (suc k);
@@ -96,8 +96,11 @@ module _ (n t : ℕ) (faulty : List Pair) (W : Net) (S : Setting n t faulty) (F 
   pub follows-run : (es : List Event) → AllProper n es → Follows n t faulty (trueOf W) (run faulty W es)
   follows-run es p = run-follows n t faulty (trueOf W) truth (S .size) premises W es follows-beginning p
 
-  pub stands-run : (es : List Event) (p : AllProper n es) → Stands n t (table faulty) (trueOf W) truth (follows-run es p .group)
-  stands-run es p = stands n t (table faulty) (trueOf W) truth premises (follows-run es p .reached)
+  pub group-invariant-run : (es : List Event) (p : AllProper n es)
+      → GroupInvariant n t (table faulty) (trueOf W) truth (follows-run es p .group)
+  group-invariant-run es p = group-invariant n t (table faulty) (trueOf W) truth premises (follows-run es p .reached)
 
-  pub started-run : (es : List Event) → AllProper n es → ((b : ℕ) → BaseOf n b → started faulty W es b ≡ true) → (x : ℕ) → x < n → 1 ≤ run faulty W es .base (suc x) .state
-  started-run es p all x l = started-runs n t faulty (trueOf W) truth (S .size) premises W es (suc x) follows-beginning p (inr (all (suc x) (here x l)))
+  pub started-run : (es : List Event) → AllProper n es → ((b : ℕ) → BaseOf n b → started faulty W es b ≡ true) → (x : ℕ) → x < n
+      → 1 ≤ run faulty W es .base (suc x) .state
+  started-run es p all x l =
+      started-runs n t faulty (trueOf W) truth (S .size) premises W es (suc x) follows-beginning p (inr (all (suc x) (here x l)))

@@ -61,7 +61,8 @@ unfolding table good
 table-total n [] = omega (arith, total-mono n (λ x y. bit false) (λ x y. 0) (λ x y lx ly. unfold bit in le-refl 0), total-none n)
 table-total n (p ∷ faulty) = omega (
   arith,
-  total-mono n (table (p ∷ faulty)) (λ x y. named x y + table faulty x y) (λ x y lx ly. one-more (joins p (suc x) (suc y)) (good faulty (suc x) (suc y))),
+  total-mono n (table (p ∷ faulty)) (λ x y. named x y + table faulty x y)
+      (λ x y lx ly. one-more (joins p (suc x) (suc y)) (good faulty (suc x) (suc y))),
   total-add n named (table faulty),
   twice,
   table-total n faulty,

@@ -1,5 +1,5 @@
--- The log of a base in frames, against the log in messages: the frame of each number is the encoding of the message of that number, it reads back as that
--- message, and a frame of kind 3 is there exactly if a Correct-Final was said.
+-- The log of a base in frames, against the log in messages: the frame of each number is the encoding of the message of that number, it
+-- reads back as that message, and a frame of kind 3 is there exactly if a Correct-Final was said.
 use Prim.Native.Nat.{ℕ, zero, suc, _≤_, _<_}
 use mathlib.Core.Path.{_≡_, refl, sym, ap, _∙_}
 use mathlib.Core.Logic.{_⊎_, inl, inr}
@@ -75,19 +75,28 @@ kind-three (correctFinal v) e = (v, refl)
 kind-three (verifyFinal v) e = absurd (omega arith)
 
 module _ (n : ℕ) (N : NetSize n) where
-  pub says-said : (log : List Message) → ((m : Message) → Said m log → Valid n m) → saysCorrect (map encode log) ≡ true → (v : List ℕ) × Said (correctFinal v) log
+  pub says-said : (log : List Message) → ((m : Message) → Said m log → Valid n m) → saysCorrect (map encode log) ≡ true
+      → (v : List ℕ) × Said (correctFinal v) log
   unfolding saysCorrect
   says-said [] valid h = impossible (cc)
-  says-said (m ∷ log) valid h = go (or-true (eqb (kindByte (encode m)) 3) (saysCorrect (map encode log)) h) (λ k. says-said log (λ z s. valid z (List·Memᴰ·tail s)) k)
+  says-said (m ∷ log) valid h =
+      go (or-true (eqb (kindByte (encode m)) 3) (saysCorrect (map encode log)) h) (λ k. says-said log (λ z s. valid z (List·Memᴰ·tail s)) k)
     where
-      go : (eqb (kindByte (encode m)) 3 ≡ true) ⊎ (saysCorrect (map encode log) ≡ true) → (saysCorrect (map encode log) ≡ true → (v : List ℕ) × Said (correctFinal v) log) → (v : List ℕ) × Said (correctFinal v) (m ∷ log)
-      go (inl e) rest = let w = kind-three m (sym (kind-written n N m (valid m (List·Memᴰ·head refl))) ∙ eqb-true (kindByte (encode m)) 3 e) in (w .0, List·Memᴰ·head (sym (w .1)))
+      go : (eqb (kindByte (encode m)) 3 ≡ true) ⊎ (saysCorrect (map encode log) ≡ true)
+          → (saysCorrect (map encode log) ≡ true → (v : List ℕ) × Said (correctFinal v) log)
+          → (v : List ℕ) × Said (correctFinal v) (m ∷ log)
+      go (inl e) rest =
+          let w = kind-three m (sym (kind-written n N m (valid m (List·Memᴰ·head refl))) ∙ eqb-true (kindByte (encode m)) 3 e) in
+          (w .0, List·Memᴰ·head (sym (w .1)))
       go (inr e) rest = let w = rest e in (w .0, List·Memᴰ·tail (w .1))
 
-  pub said-says : {v : List ℕ} {log : List Message} → ((m : Message) → Said m log → Valid n m) → Said (correctFinal v) log → saysCorrect (map encode log) ≡ true
+  pub said-says : {v : List ℕ} {log : List Message} → ((m : Message) → Said m log → Valid n m) → Said (correctFinal v) log
+      → saysCorrect (map encode log) ≡ true
   unfolding saysCorrect or
-  said-says {v} valid (List·Memᴰ·head {x} {xs} e) = rw (eq-eqb (kindByte (encode x)) 3 (kind-written n N x (valid x (List·Memᴰ·head refl)) ∙ ap kindOf (sym e) ∙ (unfold kindOf in refl)))
-  said-says {v} valid (List·Memᴰ·tail {x} {xs} h) = rw (said-says (λ z s. valid z (List·Memᴰ·tail s)) h) (either (eqb (kindByte (encode x)) 3))
+  said-says {v} valid (List·Memᴰ·head {x} {xs} e) =
+      rw (eq-eqb (kindByte (encode x)) 3 (kind-written n N x (valid x (List·Memᴰ·head refl)) ∙ ap kindOf (sym e) ∙ (unfold kindOf in refl)))
+  said-says {v} valid (List·Memᴰ·tail {x} {xs} h) =
+      rw (said-says (λ z s. valid z (List·Memᴰ·tail s)) h) (either (eqb (kindByte (encode x)) 3))
     where
       either : (t : Bool) → or t true ≡ true
       either true = refl

@@ -9,7 +9,7 @@ use borrow.Author.Tests.{eqb-true}
 use lib.Dec.{eqb}
 use Rattle.limits.specs.Refusals.{NetSize}
 use Rattle.lists.specs.Choice.{and, or}
-use Rattle.lists.specs.Choice.Laws.{choose-ind, and-true, or-true}
+use Rattle.lists.specs.Choice.Laws.{choose-ind, and-true, or-true, clash}
 use Rattle.protocol.specs.Net.{Net, Pair, Event, at, refusal, settled, happens, run, started}
 use Rattle.protocol.specs.Agreement.{Proper, AllProper}
 use Rattle.protocol.specs.Agreement.Cases.{impossible}
@@ -23,7 +23,8 @@ module _ (n t : ℕ) (faulty : List Pair) (id : ℕ → ℕ) (truth : List ℕ) 
   -- "An event that is turned down ... changes nothing"
   happens-follows : (W : Net) (e : Event) → Follows n t faulty id W → Proper n e → Follows n t faulty id (happens faulty W e)
   unfolding happens
-  happens-follows W e F p = choose-ind (Follows n t faulty id) (eqb (refusal faulty W e) 0) (λ r. event-moved n t faulty id truth NS P W F e p (eqb-true (refusal faulty W e) 0 r) .follows) (λ r. F)
+  happens-follows W e F p = choose-ind (Follows n t faulty id) (eqb (refusal faulty W e) 0)
+      (λ r. event-moved n t faulty id truth NS P W F e p (eqb-true (refusal faulty W e) 0 r) .follows) (λ r. F)
 
   pub run-follows : (W : Net) (es : List Event) → Follows n t faulty id W → AllProper n es → Follows n t faulty id (run faulty W es)
   unfolding run
@@ -35,7 +36,8 @@ module _ (n t : ℕ) (faulty : List Pair) (id : ℕ → ℕ) (truth : List ℕ) 
   Runs W b = 1 ≤ W .base b .state
 
   -- an event at another base leaves it alone, and one at this base leaves it running or stopped
-  settled-runs : (W : Net) (e : Event) (b : ℕ) → Follows n t faulty id W → Proper n e → refusal faulty W e ≡ 0 → Runs W b ⊎ (at e ≡ b) → Runs (settled W e) b
+  settled-runs : (W : Net) (e : Event) (b : ℕ) → Follows n t faulty id W → Proper n e → refusal faulty W e ≡ 0 → Runs W b ⊎ (at e ≡ b)
+      → Runs (settled W e) b
   settled-runs W e b F p r h = elim (ℕ-discrete b (at e)) [
     | yes q ↦ subst (Runs (settled W e)) (sym q) (event-moved n t faulty id truth NS P W F e p r .runs)
     | no q ↦ elim h [ inl k ↦ other q k | inr k ↦ absurd (q (sym k)) ]
@@ -44,19 +46,26 @@ module _ (n t : ℕ) (faulty : List Pair) (id : ℕ → ℕ) (truth : List ℕ) 
       other : b ≢ at e → Runs W b → Runs (settled W e) b
       other q k = unfold settled in rw (replaced-other (at e) _ (W .base) b q) k
 
-  happens-runs : (W : Net) (e : Event) (b : ℕ) → Follows n t faulty id W → Proper n e → Runs W b ⊎ (and (eqb (at e) b) (eqb (refusal faulty W e) 0) ≡ true) → Runs (happens faulty W e) b
+  happens-runs : (W : Net) (e : Event) (b : ℕ) → Follows n t faulty id W → Proper n e
+      → Runs W b ⊎ (and (eqb (at e) b) (eqb (refusal faulty W e) 0) ≡ true) → Runs (happens faulty W e) b
   unfolding happens
   happens-runs W e b F p h = choose-ind (λ (M : Net). Runs M b) (eqb (refusal faulty W e) 0)
-      (λ r. settled-runs W e b F p (eqb-true (refusal faulty W e) 0 r) (elim h [ inl k ↦ inl k | inr k ↦ inr (eqb-true (at e) b (and-true (eqb (at e) b) (eqb (refusal faulty W e) 0) k .0)) ]))
-      (λ r. elim h [ inl k ↦ k | inr k ↦ (let q = and-true (eqb (at e) b) (eqb (refusal faulty W e) 0) k .1 in impossible (cc)) ])
+      (λ r. settled-runs W e b F p (eqb-true (refusal faulty W e) 0 r)
+      (elim h [ inl k ↦ inl k | inr k ↦ inr (eqb-true (at e) b (parts k .0)) ]))
+      (λ r. elim h [ inl k ↦ k | inr k ↦ clash (parts k .1) r ])
+    where
+      parts : and (eqb (at e) b) (eqb (refusal faulty W e) 0) ≡ true → (eqb (at e) b ≡ true) × (eqb (refusal faulty W e) 0 ≡ true)
+      parts = and-true (eqb (at e) b) (eqb (refusal faulty W e) 0)
 
-  pub started-runs : (W : Net) (es : List Event) (b : ℕ) → Follows n t faulty id W → AllProper n es → Runs W b ⊎ (started faulty W es b ≡ true) → Runs (run faulty W es) b
+  pub started-runs : (W : Net) (es : List Event) (b : ℕ) → Follows n t faulty id W → AllProper n es
+      → Runs W b ⊎ (started faulty W es b ≡ true) → Runs (run faulty W es) b
   unfolding run started
   started-runs W [] b F p (inl h) = h
   started-runs W [] b F p (inr h) = impossible (cc)
   started-runs W (e ∷ es) b F p h = started-runs (happens faulty W e) es b (happens-follows W e F (p .0)) (p .1) (next h)
     where
-      next : Runs W b ⊎ (or (and (eqb (at e) b) (eqb (refusal faulty W e) 0)) (started faulty (happens faulty W e) es b) ≡ true) → Runs (happens faulty W e) b ⊎ (started faulty (happens faulty W e) es b ≡ true)
+      next : Runs W b ⊎ (or (and (eqb (at e) b) (eqb (refusal faulty W e) 0)) (started faulty (happens faulty W e) es b) ≡ true)
+          → Runs (happens faulty W e) b ⊎ (started faulty (happens faulty W e) es b ≡ true)
       next (inl k) = inl (happens-runs W e b F (p .0) (inl k))
       next (inr k) = elim (or-true (and (eqb (at e) b) (eqb (refusal faulty W e) 0)) (started faulty (happens faulty W e) es b) k) [
         | inl q ↦ inl (happens-runs W e b F (p .0) (inr q))

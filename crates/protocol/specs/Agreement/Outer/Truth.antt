@@ -38,18 +38,24 @@ module _ (W : Net) where
   member-true zero g h = absurd (member-none g h)
   member-true (suc n) g h = go (member-cases g (trueOf W n) (trueIdentifiers n W) h) (λ k. member-true n g k)
     where
-      go : (trueOf W n ≡ g) ⊎ (member g (trueIdentifiers n W) ≡ true) → (member g (trueIdentifiers n W) ≡ true → Met n (trueOf W) g) → Met (suc n) (trueOf W) g
+      go : (trueOf W n ≡ g) ⊎ (member g (trueIdentifiers n W) ≡ true) → (member g (trueIdentifiers n W) ≡ true → Met n (trueOf W) g)
+          → Met (suc n) (trueOf W) g
       go (inl e) rest = (n, le-refl (suc n), sym e)
       go (inr k) rest = let w = rest k in (w .0, omega (arith, w .1), w .2)
 
   true-distinct : (n : ℕ) → Injective n (trueOf W) → distinct (trueIdentifiers n W) ≡ true
   unfolding trueIdentifiers distinct
   true-distinct zero apart = refl
-  true-distinct (suc n) apart = and-both (ap not (fresh (true-or-false (member (trueOf W n) (trueIdentifiers n W))))) (true-distinct n (λ x y lx ly e. apart x y (omega arith) (omega arith) e))
+  true-distinct (suc n) apart = and-both (ap not (fresh (true-or-false (member (trueOf W n) (trueIdentifiers n W)))))
+      (true-distinct n (λ x y lx ly e. apart x y (omega arith) (omega arith) e))
     where
-      fresh : (member (trueOf W n) (trueIdentifiers n W) ≡ true) ⊎ (member (trueOf W n) (trueIdentifiers n W) ≡ false) → member (trueOf W n) (trueIdentifiers n W) ≡ false
+      fresh : (member (trueOf W n) (trueIdentifiers n W) ≡ true) ⊎ (member (trueOf W n) (trueIdentifiers n W) ≡ false)
+          → member (trueOf W n) (trueIdentifiers n W) ≡ false
       fresh (inr e) = e
-      fresh (inl e) = let w = member-true n (trueOf W n) e in let q = apart n (w .0) (le-refl (suc n)) (omega (arith, w .1)) (w .2) in absurd (omega (arith, w .1))
+      fresh (inl e) =
+          let w = member-true n (trueOf W n) e in
+          let q = apart n (w .0) (le-refl (suc n)) (omega (arith, w .1)) (w .2) in
+          absurd (omega (arith, w .1))
 
   pub truth-listed : (n : ℕ) → Injective n (trueOf W) → Lists n (trueOf W) (sort (trueIdentifiers n W))
   truth-listed n apart = record {

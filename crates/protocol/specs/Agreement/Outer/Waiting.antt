@@ -1,5 +1,5 @@
--- Nothing waits: every broadcast has been carried to every base at the other end of a good link, in both directions. `waiting` counts each broadcast that has
--- not, so that none is left where the count is zero.
+-- Nothing waits: every broadcast has been carried to every base at the other end of a good link, in both directions. `waiting` counts each
+-- broadcast that has not, so that none is left where the count is zero.
 use Prim.Native.Nat.{ℕ, suc, _<_}
 use mathlib.Core.Path.{_≡_, refl, ap}
 use mathlib.Core.Logic.{_≢_}
@@ -15,11 +15,14 @@ use Rattle.protocol.specs.Net.{Net, Pair, good, waitingFrom, waiting}
 
 module _ (n : ℕ) (faulty : List Pair) (W : Net) where
   -- what waits from a to b on a good link is counted whole
-  waits-counted : (a b : ℕ) → a ≢ b → good faulty a b ≡ true → waitingFrom faulty W a b ≡ sum (length (W .log a)) (λ i. bit (not (W .carried a b (suc i))))
+  waits-counted : (a b : ℕ) → a ≢ b → good faulty a b ≡ true
+      → waitingFrom faulty W a b ≡ sum (length (W .log a)) (λ i. bit (not (W .carried a b (suc i))))
   unfolding waitingFrom
-  waits-counted a b ne e = choose-ind (λ k. k ≡ sum (length (W .log a)) (λ i. bit (not (W .carried a b (suc i))))) _ (λ q. clash q (or-neither (ne-eqb a b ne) (ap not e))) (λ q. refl)
+  waits-counted a b ne e = choose-ind (λ k. k ≡ sum (length (W .log a)) (λ i. bit (not (W .carried a b (suc i))))) _
+      (λ q. clash q (or-neither (ne-eqb a b ne) (ap not e))) (λ q. refl)
 
-  pub nothing-waits : waiting n faulty W ≡ 0 → (x y k : ℕ) → x < n → y < n → x ≢ y → good faulty (suc x) (suc y) ≡ true → k < length (W .log (suc x)) → W .carried (suc x) (suc y) (suc k) ≡ true
+  pub nothing-waits : waiting n faulty W ≡ 0 → (x y k : ℕ) → x < n → y < n → x ≢ y → good faulty (suc x) (suc y) ≡ true
+      → k < length (W .log (suc x)) → W .carried (suc x) (suc y) (suc k) ≡ true
   unfolding waiting
   nothing-waits none x y k x-in y-in ne e l = carried (W .carried (suc x) (suc y) (suc k)) (omega (
     arith,

@@ -2,7 +2,7 @@
 use native.Mathlib.Omega.{arith}
 use borrow.Author.Needs.{needs}
 use mathlib.Core.Path.{refl, sym, _∙_, subst}
-use Rattle.lines.specs.Lines.Laws.{base-range}
+use Rattle.lines.specs.Lines.Laws.{net-base-range}
 use Rattle.lines.specs.Lines.Told.{FaultyTold, faulty-told}
 use Rattle.lines.specs.declared.bases.Two.the-variants.{Both}
 use denote.Ref.{now}
@@ -33,10 +33,10 @@ unfolding faultyPlay
 returns-2 c = unless-onward _ (c .before .before .before .before .if1 .left) (rw (sym (c .before .before .faulty-line .ensures) ∙ c .enum-told .given .1) refl)
 
 cast-mark-faulty : tie.Need-cast-mark-faulty
-cast-mark-faulty c = omega (arith, base-range (c .before .before .before .before .before .before .before .before .args .play .net .n) _ (told (c) .0) .1)
+cast-mark-faulty c = omega (arith, net-base-range (c .before .before .before .before .before .before .before .before .args .play .net .n) _ (told (c) .0) .1)
 
 cast-mark-faulty-2 : tie.Need-cast-mark-faulty-2
-cast-mark-faulty-2 c = omega (arith, base-range (c .before .before .before .before .before .before .before .before .args .play .net .n) _ (told (c) .1 .0) .1)
+cast-mark-faulty-2 c = omega (arith, net-base-range (c .before .before .before .before .before .before .before .before .args .play .net .n) _ (told (c) .1 .0) .1)
 
 mark-faulty-requires : tie.Need-mark-faulty-requires
 mark-faulty-requires c κs = c .before .before .before .before .before .before .before .before .pre

@@ -8,17 +8,17 @@ use lib.ListN.{length, take, drop}
 use lib.Seq.{length-take-le}
 use denote.Ref.{now}
 use Rattle.text.specs.Hex.{hexBytes}
-use Rattle.text.specs.Hex.Laws.{length-array, array-front}
+use Rattle.text.specs.Hex.Laws.{length-hex, hex-front}
 use Rattle.net.specs.Shown.{pairsOf}
 use Rattle.events.specs.Events.{forgedTo}
 use Rattle.replay.proofs.history.forge_bytes.Statement.{statement}
 use Rattle.replay.proofs.history.forge_bytes.Tie as tie
 
 room : (c : tie.After-hex-bytes) → c .before .before .args .count ≤ length (c .hex-bytes .result)
-room c = omega (arith, c .before .before .pre .0, ap length (c .hex-bytes .ensures), length-array (now (c .before .before .args .s)) (c .before .before .args .at) (c .before .before .args .count))
+room c = omega (arith, c .before .before .pre .0, ap length (c .hex-bytes .ensures), length-hex (now (c .before .before .args .s)) (c .before .before .args .at) (c .before .before .args .count))
 
 bytes-are : (c : tie.After-hex-bytes) → take (c .before .before .args .count) (c .hex-bytes .result) ≡ hexBytes (c .before .before .args .count) (drop (c .before .before .args .at) (now (c .before .before .args .s)))
-bytes-are c = ap (take (c .before .before .args .count)) (c .hex-bytes .ensures) ∙ array-front (now (c .before .before .args .s)) (c .before .before .args .at) (c .before .before .args .count) (c .before .before .pre .0) (c .before .before .pre .1)
+bytes-are c = ap (take (c .before .before .args .count)) (c .hex-bytes .ensures) ∙ hex-front (now (c .before .before .args .s)) (c .before .before .args .at) (c .before .before .args .count) (c .before .before .pre .0) (c .before .before .pre .1)
 
 hex-bytes-requires : tie.Need-hex-bytes-requires
 hex-bytes-requires c κs = search needs

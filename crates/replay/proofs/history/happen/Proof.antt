@@ -1,8 +1,8 @@
 -- `replay::history::happen` meets its contract: the line decides.
 use mathlib.Core.Path.{refl, ap, subst}
 use denote.Ref.{now}
-use Rattle.calls.specs.declared.Told.{Told}
-use Rattle.calls.specs.Calls.{told}
+use Rattle.node_calls.specs.declared.Told.{Told}
+use Rattle.node_calls.specs.Calls.{told}
 use Rattle.replay.specs.Play.{HasBytes}
 use Rattle.replay.specs.Turn.{reachedBy}
 use borrow.Author.Needs.{needs}

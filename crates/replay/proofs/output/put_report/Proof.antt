@@ -6,7 +6,7 @@ use mathlib.Core.List.{_++_}
 use Prim.Native.Nat.{ℕ}
 use borrow.Author.Tests.{eq-eqb, ne-eqb}
 use Rattle.lists.specs.Choice.Laws.{chosen-yes, chosen-no}
-use Rattle.print.specs.Put.Laws.{put-as, put-then, put-length}
+use Rattle.print.specs.Put.Laws.{put-as, put-then, text-length}
 use Rattle.net.specs.Shown.{shown}
 use Rattle.schedule.specs.Report.{baseLines, waitingLine}
 use Rattle.report.specs.Laws.{line-there}
@@ -39,7 +39,7 @@ same-length-2 c = search needs
 returns-2 : tie.Need-returns-2
 unfolding reportPlay
 returns-2 c = let n = c .before .before .before .before .before .before .before .before .before .before .before .before .pre .1 (c .before .before .before .before .before .before .before .before .before .before .if1 .left) in
-    let P = line-there (omega (arith, c .before .before .before .before .before .before .before .put-bases .ensures .1, n, c .before .before .before .before .before .before .before .before .before .before .before .before .pre .0, put-length (c .before .before .before .before .before .before .before .put-bases .ensures .0))) (c .before .before .waiting-line .ensures .0) (c .before .before .waiting-line .ensures .1 .0) in (
+    let P = line-there (omega (arith, c .before .before .before .before .before .before .before .put-bases .ensures .1, n, c .before .before .before .before .before .before .before .before .before .before .before .before .pre .0, text-length (c .before .before .before .before .before .before .before .put-bases .ensures .0))) (c .before .before .waiting-line .ensures .0) (c .before .before .waiting-line .ensures .1 .0) in (
       put-as (chosen-yes _ (eq-eqb _ 0 (c .before .before .before .before .before .before .before .before .before .before .if1 .left)) (ap (λ (k : ℕ). baseLines (c .before .before .before .before .before .before .before .before .before .before .before .before .args .play .net .n) (shown (c .before .before .before .before .before .before .before .before .before .before .before .before .args .play .net)) ++ waitingLine k) (c .before .before .before .waiting .ensures))) (put-then (c .before .before .before .before .before .before .before .put-bases .ensures .0) P),
       omega (arith, c .before .before .before .before .before .before .before .put-bases .ensures .1, n, c .before .before .waiting-line .ensures .1 .1),
     )

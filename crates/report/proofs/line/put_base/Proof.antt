@@ -3,7 +3,7 @@ use native.Mathlib.Omega.{arith}
 use borrow.Author.Needs.{needs}
 use Rattle.print.specs.Decimal.{decimalText}
 use Rattle.print.specs.Decimal.Laws.{few-digits}
-use Rattle.print.specs.Put.Laws.{put-fits, put-next, put-then, put-length, step}
+use Rattle.print.specs.Put.Laws.{put-fits, put-next, put-then, text-length, step}
 use Rattle.schedule.specs.Report.{feed, baseLine}
 use Rattle.report.proofs.line.put_base.Statement.{statement}
 use Rattle.report.proofs.line.put_base.Tie as tie
@@ -21,7 +21,7 @@ put-state-requires : tie.Need-put-state-requires
 put-state-requires c κs = let few = few-digits 2 (c .before .before .before .before .before .before .before .before .before .before .before .args .number) (omega arith) in
     let A = put-fits (omega arith) (c .before .before .before .before .before .before .before .put-text .ensures .0) (c .before .before .before .before .before .before .before .put-text .ensures .1) in
     let B = put-next (decimalText (c .before .before .before .before .before .before .before .before .before .before .before .args .number)) A (omega (arith, A .past)) (c .before .before .before .put-decimal .ensures .0) (c .before .before .before .put-decimal .ensures .1) in
-    omega (arith, A .past, step (decimalText (c .before .before .before .before .before .before .before .before .before .before .before .args .number)) A B, put-length B)
+    omega (arith, A .past, step (decimalText (c .before .before .before .before .before .before .before .before .before .before .before .args .number)) A B, text-length B)
 
 slice-aggregate-put-text-2 : tie.Need-slice-aggregate-put-text-2
 slice-aggregate-put-text-2 c = search needs

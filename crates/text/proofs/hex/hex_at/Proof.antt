@@ -2,7 +2,7 @@
 use mathlib.Core.Path.{refl, sym, _∙_}
 use borrow.Author.Tests.{lt-ltb, le-ltb}
 use Rattle.lists.specs.Choice.Laws.{chosen-yes, chosen-no}
-use Rattle.text.specs.Hex.{hexAt, atMostBurst}
+use Rattle.text.specs.Hex.{hexAt, atMostForgery}
 use borrow.Author.Needs.{needs}
 use Rattle.text.proofs.hex.hex_at.Statement.{statement}
 use Rattle.text.proofs.hex.hex_at.Tie as tie
@@ -17,18 +17,22 @@ enum-told : tie.Need-enum-told
 enum-told c = search needs
 
 returns : tie.Need-returns
-unfolding hexAt atMostBurst
+unfolding hexAt atMostForgery
 returns c = rw (sym (c .before .before .hex-from .ensures) ∙ c .enum-told .given .1)
 
 returns-2 : tie.Need-returns-2
-unfolding hexAt atMostBurst
+unfolding hexAt atMostForgery
 returns-2 c =
-    rw (sym (c .before .before .before .before .hex-from .ensures) ∙ c .before .before .count .given .1) (chosen-yes _ (lt-ltb _ _ (c .if1 .taken)) refl)
+    let hex-from = c .before .before .before .before .hex-from in
+    let count = c .before .before .count in
+    rw (sym (hex-from .ensures) ∙ count .given .1) (chosen-yes _ (lt-ltb _ _ (c .if1 .taken)) refl)
 
 returns-3 : tie.Need-returns-3
-unfolding hexAt atMostBurst
+unfolding hexAt atMostForgery
 returns-3 c =
-    rw (sym (c .before .before .before .before .hex-from .ensures) ∙ c .before .before .count .given .1) (chosen-no _ (le-ltb _ _ (c .if1 .left)) refl)
+    let hex-from = c .before .before .before .before .hex-from in
+    let count = c .before .before .count in
+    rw (sym (hex-from .ensures) ∙ count .given .1) (chosen-no _ (le-ltb _ _ (c .if1 .left)) refl)
 
 pub hex-at-spec : {M : Type 1} → statement M
 hex-at-spec =

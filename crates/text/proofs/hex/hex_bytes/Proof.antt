@@ -4,7 +4,7 @@ use borrow.Author.Needs.{needs}
 use Prim.Native.Nat.{_+_, _*_, _-_, _≤_}
 use mathlib.Core.Path.{_≡_, sym, _∙_}
 use lib.ListN.{drop}
-use Rattle.limits.specs.Limits.{longestBurst}
+use Rattle.limits.specs.Limits.{longestForgery}
 use Rattle.lists.specs.Lists.{padTo}
 use Rattle.text.specs.Hex.{hexBytes}
 use Rattle.text.specs.Hex.Laws.{array-none, array-more, array-all, array-full, array-short}
@@ -12,28 +12,32 @@ use Rattle.text.proofs.hex.hex_bytes.Statement.{statement}
 use Rattle.text.proofs.hex.hex_bytes.Tie as tie
 
 abbrev Inv-loop : tie.InvT-loop
-Inv-loop s at count bytes₀ p₀ i₀ bytes p i = (i ≤ longestBurst) × ((i ≤ count) × ((p ≡ at + 2 * i) × (bytes ≡ padTo longestBurst (hexBytes i (drop at s)))))
+Inv-loop s at count bytes₀ p₀ i₀ bytes p i =
+    (i ≤ longestForgery) × ((i ≤ count) × ((p ≡ at + 2 * i) × (bytes ≡ padTo longestForgery (hexBytes i (drop at s)))))
 
 abbrev μ-loop : tie.MeasureT-loop
-μ-loop s at count bytes₀ p₀ i₀ bytes p i = longestBurst - i
+μ-loop s at count bytes₀ p₀ i₀ bytes p i = longestForgery - i
 
 loop-holds : tie.Need-loop-holds Inv-loop μ-loop
 loop-holds c = (omega arith, (omega arith, (omega arith, array-none (c .before .args .s .now) (c .before .args .at))))
 
 returns : tie.Need-returns Inv-loop μ-loop
 returns c =
-    c .before .before .loop .inv .1 .1 .1 ∙ sym (array-all _ _ _ _ (c .before .before .loop .inv .1 .0) (c .before .before .loop .inv .0) (c .if1 .taken))
+    let l = c .before .before .loop in
+    l .inv .1 .1 .1 ∙ sym (array-all _ _ _ _ (l .inv .1 .0) (l .inv .0) (c .if1 .taken))
 
 returns-2 : tie.Need-returns-2 Inv-loop μ-loop
 returns-2 c =
-    c .before .before .before .loop .inv .1 .1 .1 ∙ sym (array-short _ _ _ _ (c .before .before .before .loop .inv .1 .0) (c .before .before .before .loop .inv .0) (omega arith))
+    let l = c .before .before .before .loop in
+    l .inv .1 .1 .1 ∙ sym (array-short _ _ _ _ (l .inv .1 .0) (l .inv .0) (omega arith))
 
 sub-if3 : tie.Need-sub-if3 Inv-loop μ-loop
 sub-if3 c = search needs
 
 returns-3 : tie.Need-returns-3 Inv-loop μ-loop
 returns-3 c =
-    c .before .before .before .before .loop .inv .1 .1 .1 ∙ sym (array-short _ _ _ _ (c .before .before .before .before .loop .inv .1 .0) (c .before .before .before .before .loop .inv .0) (omega arith))
+    let l = c .before .before .before .before .loop in
+    l .inv .1 .1 .1 ∙ sym (array-short _ _ _ _ (l .inv .1 .0) (l .inv .0) (omega arith))
 
 shared-slice-read-hex-pair : tie.Need-shared-slice-read-hex-pair Inv-loop μ-loop
 shared-slice-read-hex-pair c = search needs
@@ -61,10 +65,18 @@ loop-less c = search needs
 
 loop-again : tie.Need-loop-again Inv-loop μ-loop
 loop-again c =
-    (omega arith, (omega arith, (omega arith, array-more _ _ _ (c .before .before .before .before .before .before .before .loop .p) (c .before .before .before .before .before .before .loop-test .taken) (c .before .before .before .before .before .before .before .loop .inv .1 .1 .0) (omega arith) (c .before .before .before .before .before .before .before .loop .inv .1 .1 .1) (c .hex-pair .ensures))))
+    let l = c .before .before .before .before .before .before .before .loop in
+    let loop-test = c .before .before .before .before .before .before .loop-test in (
+      omega arith,
+      (
+        omega arith,
+        (omega arith, array-more _ _ _ (l .p) (loop-test .taken) (l .inv .1 .1 .0) (omega arith) (l .inv .1 .1 .1) (c .hex-pair .ensures)),
+      ),
+    )
 
 returns-4 : tie.Need-returns-4 Inv-loop μ-loop
-returns-4 c = c .before .loop .inv .1 .1 .1 ∙ sym (array-full _ _ _ _ (c .before .loop .inv .1 .0) (c .loop-test .left) (c .before .loop .inv .0))
+returns-4 c =
+    c .before .loop .inv .1 .1 .1 ∙ sym (array-full _ _ _ _ (c .before .loop .inv .1 .0) (c .loop-test .left) (c .before .loop .inv .0))
 
 pub hex-bytes-spec : {M : Type 1} → statement M
 hex-bytes-spec =

@@ -1,4 +1,5 @@
--- `text::hex::hex_from` meets its contract. Invariant: the walk from the beginning ends as the one from i on does, count bytes being counted.
+-- `text::hex::hex_from` meets its contract. Invariant: the walk from the beginning ends as the one from i on does, count bytes being
+-- counted.
 use native.Mathlib.Omega.{arith}
 use borrow.Author.Needs.{needs}
 use Prim.Native.Nat.{_-_, _≤_}
@@ -32,7 +33,9 @@ sub-if2 c = search needs
 
 returns-2 : tie.Need-returns-2 Inv-loop μ-loop
 returns-2 c =
-    sym (c .before .before .before .before .loop .inv .1 ∙ from-odd _ _ _ (c .before .before .before .loop-test .taken) (c .before .if1 .left) (c .if2 .taken))
+    let l = c .before .before .before .before .loop in
+    let loop-test = c .before .before .before .loop-test in
+    sym (l .inv .1 ∙ from-odd _ _ _ (loop-test .taken) (c .before .if1 .left) (c .if2 .taken))
 
 shared-slice-read-is-hex : tie.Need-shared-slice-read-is-hex Inv-loop μ-loop
 shared-slice-read-is-hex c = search needs
@@ -60,15 +63,33 @@ loop-less c = search needs
 
 loop-again : tie.Need-loop-again Inv-loop μ-loop
 loop-again c =
-    (omega arith, c .before .before .before .before .before .before .before .before .before .before .loop .inv .1 ∙ from-pair _ _ _ (c .before .before .before .before .before .before .before .before .before .loop-test .taken) (c .before .before .before .before .before .before .before .if1 .left) (c .before .before .before .before .before .before .if2 .left) (sym (c .before .before .before .before .is-hex .ensures) ∙ c .before .before .before .if3 .taken) (sym (c .before .is-hex2 .ensures) ∙ c .if4 .taken))
+    let l = c .before .before .before .before .before .before .before .before .before .before .loop in
+    let loop-test = c .before .before .before .before .before .before .before .before .before .loop-test in
+    let if1 = c .before .before .before .before .before .before .before .if1 in
+    let if2 = c .before .before .before .before .before .before .if2 in
+    let is-hex = c .before .before .before .before .is-hex in
+    let if3 = c .before .before .before .if3 in (
+      omega arith,
+      l .inv .1
+          ∙ from-pair _ _ _ (loop-test .taken) (if1 .left) (if2 .left) (sym (is-hex .ensures) ∙ if3 .taken)
+          (sym (c .before .is-hex2 .ensures) ∙ c .if4 .taken),
+    )
 
 returns-3 : tie.Need-returns-3 Inv-loop μ-loop
 returns-3 c =
-    sym (c .before .before .before .before .before .before .before .before .before .before .loop .inv .1 ∙ from-second _ _ _ (c .before .before .before .before .before .before .before .before .before .loop-test .taken) (c .before .before .before .before .before .before .before .if1 .left) (c .before .before .before .before .before .before .if2 .left) (sym (c .before .is-hex2 .ensures) ∙ c .if4 .left))
+    let l = c .before .before .before .before .before .before .before .before .before .before .loop in
+    let loop-test = c .before .before .before .before .before .before .before .before .before .loop-test in
+    let if1 = c .before .before .before .before .before .before .before .if1 in
+    let if2 = c .before .before .before .before .before .before .if2 in
+    sym (l .inv .1 ∙ from-second _ _ _ (loop-test .taken) (if1 .left) (if2 .left) (sym (c .before .is-hex2 .ensures) ∙ c .if4 .left))
 
 returns-4 : tie.Need-returns-4 Inv-loop μ-loop
 returns-4 c =
-    sym (c .before .before .before .before .before .before .before .loop .inv .1 ∙ from-first _ _ _ (c .before .before .before .before .before .before .loop-test .taken) (c .before .before .before .before .if1 .left) (c .before .before .before .if2 .left) (sym (c .before .is-hex .ensures) ∙ c .if3 .left))
+    let l = c .before .before .before .before .before .before .before .loop in
+    let loop-test = c .before .before .before .before .before .before .loop-test in
+    let if1 = c .before .before .before .before .if1 in
+    let if2 = c .before .before .before .if2 in
+    sym (l .inv .1 ∙ from-first _ _ _ (loop-test .taken) (if1 .left) (if2 .left) (sym (c .before .is-hex .ensures) ∙ c .if3 .left))
 
 returns-5 : tie.Need-returns-5 Inv-loop μ-loop
 returns-5 c = sym (c .before .loop .inv .1 ∙ from-end _ _ _ (c .loop-test .left))

@@ -25,14 +25,19 @@ cast-t12 : tie.Need-cast-t12 Inv-loop μ-loop
 cast-t12 c = search needs
 
 returns : tie.Need-returns Inv-loop μ-loop
-returns c = sym (c .before .before .before .loop .inv .1 ∙ digits-close _ _ _ (c .before .before .loop-test .taken) (below-digits (c .if1 .taken)))
+returns c =
+    let l = c .before .before .before .loop in
+    let loop-test = c .before .before .loop-test in
+    sym (l .inv .1 ∙ digits-close _ _ _ (loop-test .taken) (below-digits (c .if1 .taken)))
 
 cast-t13 : tie.Need-cast-t13 Inv-loop μ-loop
 cast-t13 c = search needs
 
 returns-2 : tie.Need-returns-2 Inv-loop μ-loop
 returns-2 c =
-    sym (c .before .before .before .before .loop .inv .1 ∙ digits-close _ _ _ (c .before .before .before .loop-test .taken) (above-digits (c .if2 .taken)))
+    let l = c .before .before .before .before .loop in
+    let loop-test = c .before .before .before .loop-test in
+    sym (l .inv .1 ∙ digits-close _ _ _ (loop-test .taken) (above-digits (c .if2 .taken)))
 
 mul-more : tie.Need-mul-more Inv-loop μ-loop
 mul-more c = search needs
@@ -45,7 +50,13 @@ add-more c = search needs
 
 returns-3 : tie.Need-returns-3 Inv-loop μ-loop
 returns-3 c =
-    sym (c .before .before .before .before .before .before .loop .inv .1 ∙ digits-over _ _ _ _ (c .before .before .before .before .before .loop-test .taken) (digit (c .before .before .before .if1 .left) (c .before .before .if2 .left)) (omega (arith, c .before .wide .ensures)) (c .if3 .taken))
+    let l = c .before .before .before .before .before .before .loop in
+    let loop-test = c .before .before .before .before .before .loop-test in
+    let if1 = c .before .before .before .if1 in
+    let if2 = c .before .before .if2 in
+    sym
+    (l .inv .1
+    ∙ digits-over _ _ _ _ (loop-test .taken) (digit (if1 .left) (if2 .left)) (omega (arith, c .before .wide .ensures)) (c .if3 .taken))
 
 add-i : tie.Need-add-i Inv-loop μ-loop
 add-i c = search needs
@@ -55,7 +66,14 @@ loop-less c = search needs
 
 loop-again : tie.Need-loop-again Inv-loop μ-loop
 loop-again c =
-    (c .if3 .left, c .before .before .before .before .before .before .loop .inv .1 ∙ digits-more _ _ _ _ (c .before .before .before .before .before .loop-test .taken) (digit (c .before .before .before .if1 .left) (c .before .before .if2 .left)) (omega (arith, c .before .wide .ensures)) (c .if3 .left))
+    let l = c .before .before .before .before .before .before .loop in
+    let loop-test = c .before .before .before .before .before .loop-test in
+    let if1 = c .before .before .before .if1 in
+    let if2 = c .before .before .if2 in (
+      c .if3 .left,
+      l .inv .1
+          ∙ digits-more _ _ _ _ (loop-test .taken) (digit (if1 .left) (if2 .left)) (omega (arith, c .before .wide .ensures)) (c .if3 .left),
+    )
 
 cast-t16 : tie.Need-cast-t16 Inv-loop μ-loop
 cast-t16 c = search needs

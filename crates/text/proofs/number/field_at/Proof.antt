@@ -21,7 +21,10 @@ returns c = rw (sym (c .before .before .number-at .ensures) ∙ c .enum-told .gi
 
 returns-2 : tie.Need-returns-2
 unfolding fieldAt
-returns-2 c = rw (sym (c .before .before .before .before .number-at .ensures) ∙ c .before .before .v .given .1) (sym (closed-end _ _ _ _ (c .if1 .taken)))
+returns-2 c =
+    let number-at = c .before .before .before .before .number-at in
+    let v = c .before .before .v in
+    rw (sym (number-at .ensures) ∙ v .given .1) (sym (closed-end _ _ _ _ (c .if1 .taken)))
 
 shared-slice-read-if2 : tie.Need-shared-slice-read-if2
 shared-slice-read-if2 c = search needs
@@ -32,12 +35,17 @@ add-t12 c = search needs
 returns-3 : tie.Need-returns-3
 unfolding fieldAt
 returns-3 c =
-    rw (sym (c .before .before .before .before .before .before .number-at .ensures) ∙ c .before .before .before .before .v .given .1) (sym (closed-here _ _ _ _ (c .before .before .if1 .left) (c .if2 .taken)))
+    let number-at = c .before .before .before .before .before .before .number-at in
+    let v = c .before .before .before .before .v in
+    let if1 = c .before .before .if1 in
+    rw (sym (number-at .ensures) ∙ v .given .1) (sym (closed-here _ _ _ _ (if1 .left) (c .if2 .taken)))
 
 returns-4 : tie.Need-returns-4
 unfolding fieldAt
 returns-4 c =
-    rw (sym (c .before .before .before .before .before .before .number-at .ensures) ∙ c .before .before .before .before .v .given .1) (sym (closed-other _ _ _ _ (c .if2 .left)))
+    let number-at = c .before .before .before .before .before .before .number-at in
+    let v = c .before .before .before .before .v in
+    rw (sym (number-at .ensures) ∙ v .given .1) (sym (closed-other _ _ _ _ (c .if2 .left)))
 
 pub field-at-spec : {M : Type 1} → statement M
 field-at-spec =

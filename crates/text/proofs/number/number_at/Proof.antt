@@ -34,7 +34,11 @@ digits-from-requires c κs = search needs
 
 returns-5 : tie.Need-returns-5
 returns-5 c =
-    c .digits-from .ensures ∙ sym (number-digits _ _ _ (c .before .before .before .before .before .before .if1 .left) (digit (c .before .before .before .before .if2 .left) (c .before .before .before .if3 .left)) (c .before .before .if4 .left) (c .before .wide .ensures))
+    let if1 = c .before .before .before .before .before .before .if1 in
+    let if2 = c .before .before .before .before .if2 in
+    let if3 = c .before .before .before .if3 in
+    let if4 = c .before .before .if4 in
+    c .digits-from .ensures ∙ sym (number-digits _ _ _ (if1 .left) (digit (if2 .left) (if3 .left)) (if4 .left) (c .before .wide .ensures))
 
 pub number-at-spec : {M : Type 1} → statement M
 number-at-spec =

@@ -38,11 +38,17 @@ loop-less c = search needs
 
 loop-again : tie.Need-loop-again Inv-loop μ-loop
 loop-again c =
-    c .before .before .before .before .before .loop .inv ∙ word-more _ _ _ _ (c .before .before .before .before .loop-test .taken) (c .before .before .before .if1 .left) (c .if2 .taken)
+    let l = c .before .before .before .before .before .loop in
+    let loop-test = c .before .before .before .before .loop-test in
+    let if1 = c .before .before .before .if1 in
+    l .inv ∙ word-more _ _ _ _ (loop-test .taken) (if1 .left) (c .if2 .taken)
 
 returns-2 : tie.Need-returns-2 Inv-loop μ-loop
 returns-2 c =
-    sym (c .before .before .before .before .before .loop .inv ∙ word-other _ _ _ _ (c .before .before .before .before .loop-test .taken) (c .before .before .before .if1 .left) (c .if2 .left))
+    let l = c .before .before .before .before .before .loop in
+    let loop-test = c .before .before .before .before .loop-test in
+    let if1 = c .before .before .before .if1 in
+    sym (l .inv ∙ word-other _ _ _ _ (loop-test .taken) (if1 .left) (c .if2 .left))
 
 returns-3 : tie.Need-returns-3 Inv-loop μ-loop
 returns-3 c = sym (c .before .loop .inv ∙ word-end _ _ _ _ (c .loop-test .left))

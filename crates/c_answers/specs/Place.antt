@@ -1,0 +1,65 @@
+-- The place of a message's body in its burst, as the reading answers it.
+use Prim.Native.Nat.{ℕ, _+_, _*_, _-_, _≤_}
+use mathlib.Core.Path.{_≡_, sym, ap, _∙_}
+use mathlib.Core.List.{List}
+use native.Mathlib.Omega.{arith}
+use borrow.Author.Tests.{eq-eqb, ne-eqb}
+use lib.ListN.{take, drop, length, replicate}
+use Rattle.limits.specs.Limits.{mostBases, longestBurst}
+use Rattle.lists.specs.Choice.Laws.{choose-yes, choose-no, first-passed}
+use Rattle.lists.specs.Lists.{padTo}
+use Rattle.frame.specs.Reading.{kindByte, countByte, bodyStart, bodyOf, readRefusal, burstRefusal, identifiers}
+use Rattle.frame.specs.Reading.Laws.{Framed, trailer-passed, read-passed}
+use Rattle.reader.specs.declared.Reading.{Reading}
+use Rattle.reader.specs.declared.Reading.the-variants.{Message, Refused}
+use Rattle.reader.specs.Answers.{readingOf, stretch, idArray}
+use Rattle.reader.specs.Answers.Laws.{reading-message, reading-refused}
+
+unfoldable countIn : Reading → ℕ
+countIn (Message kind count start) = count
+countIn (Refused r) = 0
+
+unfoldable startIn : Reading → ℕ
+startIn (Message kind count start) = start
+startIn (Refused r) = 0
+
+module _ (n : ℕ) (s : List ℕ) (kind count start : ℕ) (e : readingOf n s ≡ Message kind count start) where
+  passed : readRefusal n s ≡ 0
+  passed = reading-message n s kind count start e .0
+
+  whole : readingOf n s ≡ Message (kindByte s) (countByte s) (bodyStart s)
+  unfolding readingOf
+  whole = choose-yes _ _ (eq-eqb (readRefusal n s) 0 passed)
+
+  counted : count ≡ countByte s
+  unfolding countIn
+  counted = sym (ap countIn e) ∙ ap countIn whole
+
+  placed : start ≡ bodyStart s
+  unfolding startIn
+  placed = sym (ap startIn e) ∙ ap startIn whole
+
+  framed : Framed s
+  framed = read-passed n s passed
+
+  pub body-inside : start + 4 * count ≤ length s
+  unfolding bodyStart
+  body-inside = omega (arith, counted, placed, framed)
+
+  pub burst-short : length s ≤ longestBurst
+  unfolding readRefusal burstRefusal
+  burst-short = trailer-passed n s (first-passed _ _ (first-passed _ _ passed .1) .0) .short
+
+  -- the stretch between the two ends
+  pub body-there : take (start + 4 * count - start) (drop start s) ≡ stretch n s
+  unfolding stretch bodyOf
+  body-there =
+      let k : start + 4 * count - start ≡ 4 * countByte s = omega (arith, counted) in
+      ap (λ (j : ℕ). take j (drop start s)) k ∙ ap (λ (j : ℕ). take (4 * countByte s) (drop j s)) placed
+      ∙ sym (choose-yes _ _ (eq-eqb (readRefusal n s) 0 passed))
+
+-- a refused burst has no identifiers
+pub refused-none : (n : ℕ) (s : List ℕ) (r : ℕ) → readingOf n s ≡ Refused r → idArray (stretch n s) ≡ replicate mostBases 0
+unfolding stretch idArray identifiers padTo
+refused-none n s r e =
+    let q = reading-refused n s r e in ap idArray (choose-no _ _ (ne-eqb (readRefusal n s) 0 (λ z. q .1 (sym (q .0) ∙ z))))

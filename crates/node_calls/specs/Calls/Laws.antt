@@ -1,0 +1,165 @@
+-- A frame is copied out of the output byte by byte, and joins the broadcasts if there is one and there is room. The three frames of a call, taken from
+-- the output by their lengths, are those that the call broadcast.
+use Prim.Native.Nat.{ℕ, zero, suc, _+_, _≤_, _<_}
+use mathlib.Core.Path.{_≡_, refl, sym, ap, _∙_, subst}
+use mathlib.Core.List.{List, [], _∷_, _++_, map, append-assoc}
+use native.Mathlib.Numerals.{add-one}
+use native.Mathlib.Omega.{arith}
+use borrow.Author.Tests.{eq-eqb, ne-eqb, lt-ltb, le-ltb}
+use lib.ListN.{length, getD, take, drop, set, length-drop, length-append}
+use lib.Seq.{take-suc, getD-drop, length-take-le, take-at, drop-at}
+use Rattle.limits.specs.Limits.{longestFrame, outputRoom}
+use Rattle.lists.specs.Lists.{padTo}
+use Rattle.lists.specs.Lists.Laws.{pad-next}
+use Rattle.lists.specs.Choice.Laws.{choose-no, chosen-yes, chosen-no}
+use Rattle.frame.specs.Message.{Message}
+use Rattle.frame.specs.Encoding.{encode, over}
+use Rattle.frame.specs.Encoding.Laws.{length-over}
+use Rattle.protocol.specs.declared.Base.{Base}
+use Rattle.protocol.specs.declared.Outcome.{Outcome}
+use Rattle.protocol.specs.declared.Outcome.the-variants.{Accepted, Discarded, Refused}
+use Rattle.protocol.specs.declared.Step.{Step}
+use Rattle.protocol.specs.Net.{callRefusal}
+use Rattle.protocol.specs.Steps.{Answer, accepted, discarded, refused, Done, encodeAll, lengths, outcomeOf, stepOf, outputOf}
+use Rattle.protocol.specs.Steps.Answers.{Unchanged}
+use Rattle.protocol.specs.Steps.Output.{lengths-sum}
+use Rattle.node.specs.declared.Frame.{Frame}
+use Rattle.node.specs.declared.Node.{Node}
+use Rattle.node_calls.specs.declared.Told.{Told}
+use Rattle.node.specs.Node.{mostBroadcasts, storedFrame, joined, joinedAll, withBase, nodeAfter}
+use Rattle.node_calls.specs.Calls.{told, keptOf, threeKept, Fit, Fitting, settledOf}
+use Rattle.node_calls.specs.Calls.Tidy.{AllShort, encoded-length, Tidy}
+
+pub copied : (out : List ℕ) (from len i : ℕ) → i < len → len ≤ longestFrame → from + len ≤ length out
+    → set (padTo longestFrame (take i (drop from out))) i (getD out (from + i) 0) ≡ padTo longestFrame (take (i + 1) (drop from out))
+copied out from len i h short fits =
+    let l : i < length (drop from out) = simp length-drop (omega arith) in
+    pad-next longestFrame (take i (drop from out)) i (getD out (from + i) 0) (length-take-le i (drop from out) (omega arith)) (omega arith)
+    ∙ ap (padTo longestFrame) (sym (rw (add-one i) (take-suc (drop from out) i 0 l ∙ ap (λ (x : ℕ). take i (drop from out) ++ (x ∷ [])) (getD-drop from out i 0))))
+
+-- ---- one broadcast more
+pub part-length : (out : List ℕ) (from len : ℕ) → from + len ≤ length out → length (take len (drop from out)) ≡ len
+part-length out from len h = length-take-le len (drop from out) (simp length-drop (omega arith))
+
+pub kept-none : (v : Node) (bytes : List ℕ) → length bytes ≡ 0 → v ≡ keptOf v bytes
+unfolding keptOf
+kept-none v bytes e = chosen-yes _ (eq-eqb (length bytes) 0 e) refl
+
+pub kept-full : (v : Node) (bytes : List ℕ) → (length bytes ≡ 0 → ⊥) → mostBroadcasts ≤ v .count → v ≡ keptOf v bytes
+unfolding keptOf joined
+kept-full v bytes e h = chosen-no _ (ne-eqb (length bytes) 0 e) (chosen-no _ (le-ltb (v .count) mostBroadcasts h) refl)
+
+pub kept-more : (v : Node) (bytes : List ℕ) → (length bytes ≡ 0 → ⊥) → v .count < mostBroadcasts → {frame : Frame} → frame ≡ storedFrame bytes
+    → record { base = v .base; count = v .count + 1; frames = set (v .frames) (v .count) frame; heard = v .heard } ≡ keptOf v bytes
+unfolding keptOf joined
+kept-more v bytes e h f = chosen-no _ (ne-eqb (length bytes) 0 e) (chosen-yes _ (lt-ltb (v .count) mostBroadcasts h)
+    (ap (λ (frame : Frame). record { base = v .base; count = v .count + 1; frames = set (v .frames) (v .count) frame; heard = v .heard }) f))
+
+-- ---- three frames in an output
+encoded-some : (m : Message) → length (encode m) ≡ 0 → ⊥
+encoded-some m e = omega (arith, encoded-length m)
+
+kept-encoded : (v : Node) (m : Message) → keptOf v (encode m) ≡ joined v (encode m)
+unfolding keptOf
+kept-encoded v m = choose-no _ _ (ne-eqb (length (encode m)) 0 (encoded-some m))
+
+-- the part p behind the front q
+part-at : (q p r rest : List ℕ) (x y : ℕ) → length q ≡ x → length p ≡ y → take y (drop x ((q ++ (p ++ r)) ++ rest)) ≡ p
+part-at q p r rest x y ex ey = rw (append-assoc q (p ++ r) rest, drop-at q ((p ++ r) ++ rest) x ex, append-assoc p r rest) (take-at p (r ++ rest) y ey)
+
+parts : (v : Node) (b : Base) (p q r out : List ℕ)
+    → threeKept v b (over (p ++ (q ++ (r ++ []))) out) (length p) (length q) (length r) ≡ keptOf (keptOf (keptOf (withBase v b) p) q) r
+unfolding threeKept over
+parts v b p q r out = rw (one, two, three)
+  where
+    rest : List ℕ
+    rest = drop (length (p ++ (q ++ (r ++ [])))) out
+
+    one : take (length p) (drop 0 ((p ++ (q ++ (r ++ []))) ++ rest)) ≡ p
+    one = part-at [] p (q ++ (r ++ [])) rest 0 (length p) refl refl
+
+    two : take (length q) (drop (length p) ((p ++ (q ++ (r ++ []))) ++ rest)) ≡ q
+    two = part-at p q (r ++ []) rest (length p) (length q) refl refl
+
+    three : take (length r) (drop (length p + length q) ((p ++ (q ++ (r ++ []))) ++ rest)) ≡ r
+    three = ap (λ (l : List ℕ). take (length r) (drop (length p + length q) (l ++ rest))) (sym (append-assoc p q (r ++ []))) ∙ part-at (p ++ q) r [] rest (length p + length q) (length r) (length-append p q) refl
+
+no-more : (v : Node) → keptOf v [] ≡ v
+no-more v = sym (kept-none v [] refl)
+
+three-joined : (v : Node) (b : Base) (says : List Message) (out : List ℕ) → length says ≤ 3
+    → threeKept v b (over (encodeAll says) out) (getD (lengths says) 0 0) (getD (lengths says) 1 0) (getD (lengths says) 2 0) ≡ joinedAll (withBase v b) (map encode says)
+unfolding encodeAll lengths joinedAll
+three-joined v b [] out h = parts v b [] [] [] out ∙ no-more _ ∙ no-more _ ∙ no-more _
+three-joined v b (a ∷ []) out h = parts v b (encode a) [] [] out ∙ no-more _ ∙ no-more _ ∙ kept-encoded _ a
+three-joined v b (a ∷ (c ∷ [])) out h = parts v b (encode a) (encode c) [] out ∙ no-more _ ∙ kept-encoded _ c ∙ ap (λ (w : Node). joined w (encode c)) (kept-encoded _ a)
+three-joined v b (a ∷ (c ∷ (d ∷ []))) out h =
+    parts v b (encode a) (encode c) (encode d) out ∙ kept-encoded _ d ∙ ap (λ (w : Node). joined w (encode d)) (kept-encoded _ c ∙ ap (λ (w : Node). joined w (encode c)) (kept-encoded _ a))
+three-joined v b (a ∷ (c ∷ (d ∷ (e ∷ says)))) out h = absurd (omega arith)
+
+-- ---- a call
+pub after-unchanged : (v : Node) (d : Done) → Unchanged (v .base) d → nodeAfter v d ≡ v
+unfolding nodeAfter joinedAll withBase
+after-unchanged v d U = rw (U .says, U .base)
+
+short-at : (says : List Message) (k : ℕ) → AllShort says → getD (lengths says) k 0 ≤ longestFrame
+unfolding lengths
+short-at [] k p = omega arith
+short-at (m ∷ says) zero p = p .0
+short-at (m ∷ says) (suc k) p = short-at says k (p .1)
+
+module _ (v : Node) (d : Done) (T : Tidy (v .base) d) (out : List ℕ) (wide : length out ≡ outputRoom) where
+  fit : Fit (getD (lengths (d .says)) 0 0) (getD (lengths (d .says)) 1 0) (getD (lengths (d .says)) 2 0) (length (outputOf d out))
+  unfolding outputOf
+  fit = record {
+    one = short-at (d .says) 0 (T .small);
+    two = short-at (d .says) 1 (T .small);
+    three = short-at (d .says) 2 (T .small);
+    all = omega (arith, lengths-sum (d .says) (T .brief .few), T .brief .small, length-over (encodeAll (d .says)) out (omega (arith, T .brief .small)));
+  }
+
+  fitting-answer : (a : Answer) → Fitting (outcomeOf a (d .says)) (length (outputOf d out))
+  unfolding outcomeOf
+  fitting-answer accepted = fit
+  fitting-answer discarded = fit
+  fitting-answer (refused r) = tt
+
+  settled-answer : (a : Answer) → d .answer ≡ a → settledOf v (d .base) (outcomeOf a (d .says)) (outputOf d out) ≡ record { refusal = callRefusal a; node = nodeAfter v d }
+  unfolding outcomeOf settledOf callRefusal nodeAfter outputOf
+  settled-answer accepted e = ap (λ (w : Node). record { refusal = 0; node = w }) (three-joined v (d .base) (d .says) out (T .brief .few))
+  settled-answer discarded e = ap (λ (w : Node). record { refusal = 0; node = w }) (three-joined v (d .base) (d .says) out (T .brief .few))
+  settled-answer (refused r) e = ap (λ (w : Node). record { refusal = r; node = w }) (sym (after-unchanged v d (T .down r e)))
+
+  pub call-fits : {step : Step} {written : List ℕ} → step ≡ stepOf d → written ≡ outputOf d out → Fitting (step .outcome) (length written)
+  unfolding stepOf
+  call-fits e o = rw (e, o) (fitting-answer (d .answer))
+
+  pub call-told : {step : Step} {written : List ℕ} {t : Told} → step ≡ stepOf d → written ≡ outputOf d out → t ≡ settledOf v (step .base) (step .outcome) written → t ≡ told v d
+  unfolding stepOf told
+  call-told e o t = t ∙ rw (e, o) (settled-answer (d .answer) refl)
+
+-- ---- an outcome that is known
+abbrev Fits : ℕ → ℕ → ℕ → ℕ → Type 0
+Fits x y z room = (x ≤ longestFrame) × ((y ≤ longestFrame) × ((z ≤ longestFrame) × (x + y + z ≤ room)))
+
+fit-parts : {x y z room : ℕ} → Fit x y z room → Fits x y z room
+fit-parts F = (F .one, (F .two, (F .three, F .all)))
+
+pub accepted-fits : {o : Outcome} {x y z room : ℕ} → o ≡ Accepted x y z → Fitting o room → Fits x y z room
+accepted-fits {room = room} e F = fit-parts (subst (λ (o : Outcome). Fitting o room) e F)
+
+pub discarded-fits : {o : Outcome} {x y z room : ℕ} → o ≡ Discarded x y z → Fitting o room → Fits x y z room
+discarded-fits {room = room} e F = fit-parts (subst (λ (o : Outcome). Fitting o room) e F)
+
+module _ (v : Node) (b : Base) (out : List ℕ) {o : Outcome} where
+  pub settled-refused : {r : ℕ} → o ≡ Refused r → record { refusal = r; node = v } ≡ settledOf v b o out
+  unfolding settledOf
+  settled-refused e = rw e
+
+  pub settled-accepted : {x y z : ℕ} {w : Node} → o ≡ Accepted x y z → w ≡ threeKept v b out x y z → record { refusal = 0; node = w } ≡ settledOf v b o out
+  unfolding settledOf
+  settled-accepted e k = rw (e, k)
+
+  pub settled-discarded : {x y z : ℕ} {w : Node} → o ≡ Discarded x y z → w ≡ threeKept v b out x y z → record { refusal = 0; node = w } ≡ settledOf v b o out
+  unfolding settledOf
+  settled-discarded e k = rw (e, k)

@@ -1,0 +1,199 @@
+//! libroster_c.a for Rust: the sizes, numbers, records and calls of roster.h, and each call with slices. Bring it in as a module
+//! (`#[path = "../include/roster.rs"] mod roster;`) and link the library (`rustc base.rs -L target/staticlib -l static=roster_c`).
+//!
+//! What a call does, touches and is turned down by stands in roster.h. tests/layout holds the two files against each other.
+
+#![allow(dead_code)]
+
+pub const VERSION: u32 = 1;
+
+pub const FEWEST_BASES: usize = 2;
+pub const MOST_BASES: usize = 16;
+pub const MOST_LINKS: usize = MOST_BASES - 1;
+pub const LIST_ROOM: usize = MOST_BASES + 1;
+pub const LONGEST_FRAME: usize = frame_bytes(MOST_BASES);
+pub const OUTPUT_ROOM: usize = 2 * LONGEST_FRAME;
+pub const SHORTEST_BURST: usize = frame_bytes(1);
+pub const LONGEST_BURST: usize = LONGEST_FRAME + 64;
+pub const LONGEST_SCHEDULE: usize = 65536;
+pub const LINE_ROOM: usize = 37 + 11 * MOST_BASES;
+pub const REPORT_ROOM: usize = (MOST_BASES + 1) * LINE_ROOM;
+
+/// Of a frame of so many identifiers.
+pub const fn frame_bytes(count: usize) -> usize {
+    4 * count + 4
+}
+
+/// `Base::state`
+pub const IDLE: u8 = 0;
+pub const RUNNING: u8 = 1;
+pub const PRIME: u8 = 2;
+pub const SECONDARY: u8 = 3;
+
+/// `Taken::kind`
+pub const ANNOUNCE: u8 = 1;
+pub const VERIFY: u8 = 2;
+pub const CORRECT_FINAL: u8 = 3;
+pub const VERIFY_FINAL: u8 = 4;
+
+/// `Answer::outcome`
+pub const REFUSED: u8 = 0;
+pub const ACCEPTED: u8 = 1;
+pub const DISCARDED: u8 = 2;
+
+/// `Named::outcome`
+pub const LEADER_REFUSED: u8 = 0;
+pub const LEADER_NAMED: u8 = 1;
+pub const NOT_STOPPED: u8 = 2;
+
+/// Why a call is turned down: a number, or 0.
+pub const REFUSAL_BASES: u8 = 1;
+pub const REFUSAL_FAULTY_LIMIT: u8 = 2;
+pub const REFUSAL_OWN_IDENTIFIER: u8 = 3;
+pub const REFUSAL_RECORD: u8 = 4;
+pub const REFUSAL_LINK: u8 = 5;
+pub const REFUSAL_OUTPUT: u8 = 6;
+pub const REFUSAL_BURST: u8 = 7;
+pub const REFUSAL_KIND: u8 = 8;
+pub const REFUSAL_COUNT: u8 = 9;
+pub const REFUSAL_BACK_DISTANCE: u8 = 10;
+pub const REFUSAL_ZERO_IDENTIFIER: u8 = 11;
+pub const REFUSAL_NOT_ASCENDING: u8 = 12;
+pub const REFUSAL_FORM: u8 = 13;
+pub const REFUSAL_SAME_IDENTIFIER: u8 = 14;
+pub const REFUSAL_FAULTY_LINKS: u8 = 15;
+pub const REFUSAL_NOT_BROADCAST: u8 = 16;
+pub const REFUSAL_CARRIED_BEFORE: u8 = 17;
+pub const REFUSAL_FORGED_ON_GOOD: u8 = 18;
+
+/// What is held of one link. Places that are not in use are zero.
+#[repr(C)]
+#[derive(Clone, Copy, Debug, PartialEq, Eq)]
+pub struct Link {
+    pub announce: u32,
+    pub verifies: [u32; LIST_ROOM],
+    pub list: [u32; MOST_BASES],
+    pub verify_count: u16,
+    pub held: u16,
+}
+
+/// A base's record. Keep it as a call left it; read any field, write none.
+#[repr(C)]
+#[derive(Clone, Copy, Debug, PartialEq, Eq)]
+pub struct Base {
+    pub n: u8,
+    pub t: u8,
+    pub state: u8,
+    pub sent: u8,
+    pub own: u32,
+    pub final_list: [u32; MOST_BASES],
+    pub links: [Link; MOST_LINKS],
+}
+
+#[repr(C)]
+#[derive(Clone, Copy, Debug, PartialEq, Eq)]
+pub struct Made {
+    pub refusal: u8,
+    pub base: Base,
+}
+
+/// The lengths of the frames broadcast, in the order written; zero for none.
+#[repr(C)]
+#[derive(Clone, Copy, Debug, PartialEq, Eq)]
+pub struct Answer {
+    pub outcome: u8,
+    pub refusal: u8,
+    pub first: usize,
+    pub second: usize,
+    pub third: usize,
+}
+
+#[repr(C)]
+#[derive(Clone, Copy, Debug, PartialEq, Eq)]
+pub struct Named {
+    pub outcome: u8,
+    pub refusal: u8,
+    pub leader: u32,
+}
+
+/// The body is the `4 * count` bytes of the burst from `start` on.
+#[repr(C)]
+#[derive(Clone, Copy, Debug, PartialEq, Eq)]
+pub struct Taken {
+    pub refusal: u8,
+    pub kind: u8,
+    pub count: usize,
+    pub start: usize,
+    pub ids: [u32; MOST_BASES],
+}
+
+#[repr(C)]
+#[derive(Clone, Copy, Debug, PartialEq, Eq)]
+pub struct Put {
+    pub refusal: u8,
+    pub length: usize,
+}
+
+extern "C" {
+    fn roster_idle(n: usize, t: usize, own: u32) -> Made;
+    fn roster_start(base: *mut Base, out: *mut u8, out_length: usize) -> Answer;
+    fn roster_arrive(base: *mut Base, link: usize, burst: *const u8, burst_length: usize, out: *mut u8, out_length: usize) -> Answer;
+    fn roster_leader(base: *mut Base) -> Named;
+    fn roster_read(n: usize, burst: *const u8, burst_length: usize) -> Taken;
+    fn roster_write(n: usize, kind: u8, ids: *const u32, id_count: usize, out: *mut u8, out_length: usize) -> Put;
+    fn roster_replay(schedule: *const u8, schedule_length: usize, out: *mut u8, out_length: usize) -> usize;
+    fn roster_version() -> u32;
+}
+
+// Safety, of every call below: each pointer comes from a reference or a slice that outlives the call, with that slice's length, and the
+// borrow checker keeps what is lent to one call apart.
+
+#[inline]
+pub fn idle(n: usize, t: usize, own: u32) -> Made {
+    unsafe { roster_idle(n, t, own) }
+}
+
+#[inline]
+pub fn start(base: &mut Base, out: &mut [u8]) -> Answer {
+    unsafe { roster_start(base, out.as_mut_ptr(), out.len()) }
+}
+
+#[inline]
+pub fn arrive(base: &mut Base, link: usize, burst: &[u8], out: &mut [u8]) -> Answer {
+    unsafe { roster_arrive(base, link, burst.as_ptr(), burst.len(), out.as_mut_ptr(), out.len()) }
+}
+
+#[inline]
+pub fn leader(base: &mut Base) -> Named {
+    unsafe { roster_leader(base) }
+}
+
+#[inline]
+pub fn read(n: usize, burst: &[u8]) -> Taken {
+    unsafe { roster_read(n, burst.as_ptr(), burst.len()) }
+}
+
+#[inline]
+pub fn write(n: usize, kind: u8, ids: &[u32], out: &mut [u8]) -> Put {
+    unsafe { roster_write(n, kind, ids.as_ptr(), ids.len(), out.as_mut_ptr(), out.len()) }
+}
+
+#[inline]
+pub fn replay(schedule: &[u8], out: &mut [u8]) -> usize {
+    unsafe { roster_replay(schedule.as_ptr(), schedule.len(), out.as_mut_ptr(), out.len()) }
+}
+
+#[inline]
+pub fn version() -> u32 {
+    unsafe { roster_version() }
+}
+
+/// The frames of an answer, in the order written, from the output that was lent to its call.
+pub fn frames<'o>(answer: &Answer, out: &'o [u8]) -> impl Iterator<Item = &'o [u8]> {
+    let mut rest = out;
+    [answer.first, answer.second, answer.third].into_iter().filter(|&length| length > 0).map(move |length| {
+        let (frame, behind) = rest.split_at(length);
+        rest = behind;
+        frame
+    })
+}

@@ -1,0 +1,36 @@
+/* What roster.h says, one line each: numbers, sizes and places of fields. header.rs says the same of roster.rs. */
+#include "roster.h"
+#include <stdalign.h>
+#include <stdio.h>
+
+#define NUMBER(name) printf("%s %llu\n", #name, (unsigned long long)ROSTER_##name)
+#define RECORD(name) printf("%s %zu bytes, aligned to %zu\n", #name, sizeof(roster_##name), alignof(roster_##name))
+#define FIELD(of, name) printf("%s.%s at %zu\n", #of, #name, offsetof(roster_##of, name))
+
+static void numbers(void)
+{
+    NUMBER(VERSION), NUMBER(FEWEST_BASES), NUMBER(MOST_BASES), NUMBER(MOST_LINKS), NUMBER(LIST_ROOM), NUMBER(LONGEST_FRAME);
+    NUMBER(OUTPUT_ROOM), NUMBER(SHORTEST_BURST), NUMBER(LONGEST_BURST), NUMBER(LONGEST_SCHEDULE), NUMBER(LINE_ROOM), NUMBER(REPORT_ROOM);
+    NUMBER(IDLE), NUMBER(RUNNING), NUMBER(PRIME), NUMBER(SECONDARY);
+    NUMBER(ANNOUNCE), NUMBER(VERIFY), NUMBER(CORRECT_FINAL), NUMBER(VERIFY_FINAL);
+    NUMBER(REFUSED), NUMBER(ACCEPTED), NUMBER(DISCARDED);
+    NUMBER(LEADER_REFUSED), NUMBER(LEADER_NAMED), NUMBER(NOT_STOPPED);
+    NUMBER(REFUSAL_BASES), NUMBER(REFUSAL_FAULTY_LIMIT), NUMBER(REFUSAL_OWN_IDENTIFIER), NUMBER(REFUSAL_RECORD), NUMBER(REFUSAL_LINK);
+    NUMBER(REFUSAL_OUTPUT), NUMBER(REFUSAL_BURST), NUMBER(REFUSAL_KIND), NUMBER(REFUSAL_COUNT), NUMBER(REFUSAL_BACK_DISTANCE);
+    NUMBER(REFUSAL_ZERO_IDENTIFIER), NUMBER(REFUSAL_NOT_ASCENDING), NUMBER(REFUSAL_FORM), NUMBER(REFUSAL_SAME_IDENTIFIER);
+    NUMBER(REFUSAL_FAULTY_LINKS), NUMBER(REFUSAL_NOT_BROADCAST), NUMBER(REFUSAL_CARRIED_BEFORE), NUMBER(REFUSAL_FORGED_ON_GOOD);
+}
+
+int main(void)
+{
+    numbers();
+    RECORD(link), FIELD(link, announce), FIELD(link, verifies), FIELD(link, list), FIELD(link, verify_count), FIELD(link, held);
+    RECORD(base), FIELD(base, n), FIELD(base, t), FIELD(base, state), FIELD(base, sent), FIELD(base, own);
+    FIELD(base, final_list), FIELD(base, links);
+    RECORD(made), FIELD(made, refusal), FIELD(made, base);
+    RECORD(answer), FIELD(answer, outcome), FIELD(answer, refusal), FIELD(answer, first), FIELD(answer, second), FIELD(answer, third);
+    RECORD(named), FIELD(named, outcome), FIELD(named, refusal), FIELD(named, leader);
+    RECORD(taken), FIELD(taken, refusal), FIELD(taken, kind), FIELD(taken, count), FIELD(taken, start), FIELD(taken, ids);
+    RECORD(put), FIELD(put, refusal), FIELD(put, length);
+    return 0;
+}

@@ -1,0 +1,181 @@
+//! What the trace program says became of each line, held against the model: accepted; discarded, and why; or turned down, by which number.
+//! The reasons are the model's own, put into the trace's words here.
+
+use crate::base::Base;
+use crate::faults::Fault;
+use crate::generate::{histories, schedules};
+use crate::limits::{link_to, LONGEST_SCHEDULE};
+use crate::model::Model;
+use crate::net::{Event, History, Net};
+use crate::reader::{read, Number};
+use crate::replay;
+use crate::rng::Rng;
+use crate::schedule::render;
+use crate::steps::Discard;
+use crate::stored;
+use std::collections::BTreeMap;
+use std::io::Write;
+use std::path::Path;
+use std::process::{Command, Stdio};
+
+/// What became of a line's event.
+#[derive(Clone, Copy, Debug, PartialEq, Eq, PartialOrd, Ord)]
+enum Outcome {
+    Accepted,
+    Discarded(Discard),
+    Refused(Number),
+}
+
+/// How the trace says each reason.
+const REASONS: [(Discard, &str); 7] = [
+    (Discard::HasStopped, "the base has stopped"),
+    (Discard::AnnounceHeld, "the link has an Announce"),
+    (Discard::Certified, "the identifier is certified"),
+    (Discard::ListFull, "the link's list is full"),
+    (Discard::VerifyHeld, "the link holds that Verify"),
+    (Discard::CorrectFinalHeld, "the link holds a Correct-Final"),
+    (Discard::VectorMessageHeld, "the link holds a vector message"),
+];
+
+/// The lines with an event, in order.
+type Outcomes = Vec<(usize, Outcome)>;
+
+/// The stored schedules and as many made ones through the program. True where it says of every line what the model says, and every outcome
+/// came up.
+pub fn run(program: &str, folder: &str, made: usize, seed: u64) -> bool {
+    let mut compared = Compared::default();
+    let mut rng = Rng::new(seed);
+    let stored = stored::schedules(Path::new(folder));
+    for path in &stored {
+        let schedule = std::fs::read(path).unwrap_or_default();
+        compared.take(program, &schedule, &path.display().to_string());
+    }
+    for place in 0..made {
+        compared.take(program, &schedule(&mut rng), &format!("schedule {place} of seed {seed}"));
+    }
+    println!("{} stored and {made} made schedules through {program}:", stored.len());
+    compared.print()
+}
+
+/// A whole history, or a small schedule, which may be refused.
+fn schedule(rng: &mut Rng) -> Vec<u8> {
+    match rng.below(2) {
+        0 => schedules::text(rng),
+        _ => whole(histories::history(rng)),
+    }
+}
+
+/// The history as a schedule, as far as its length goes.
+fn whole(history: History) -> Vec<u8> {
+    let mut text = render(&history.as_scheduled(&mut Model::TRUE.clone()).0).into_bytes();
+    let end = text.iter().take(LONGEST_SCHEDULE).rposition(|&byte| byte == b'\n');
+    text.truncate(end.map_or(0, |end| end + 1));
+    text
+}
+
+#[derive(Default)]
+struct Compared {
+    counts: BTreeMap<Outcome, usize>,
+    wrong: Vec<String>,
+}
+
+impl Compared {
+    fn take(&mut self, program: &str, schedule: &[u8], name: &str) {
+        let ours = by_the_model(schedule);
+        let report = replay::report(schedule, Fault::None);
+        match traced(program, schedule).and_then(|trace| Ok((by_the_trace(&trace)?, trace.ends_with(&report)))) {
+            Ok((theirs, true)) if theirs == ours => {
+                for (_, outcome) in ours {
+                    *self.counts.entry(outcome).or_default() += 1;
+                }
+            }
+            Ok((_, false)) => self.wrong.push(format!("{name}: the trace does not end with the model's report")),
+            Ok((theirs, true)) => {
+                let at = ours.iter().zip(&theirs).position(|(one, other)| one != other).unwrap_or(ours.len().min(theirs.len()));
+                self.wrong.push(format!("{name}: {:?} by the model, {:?} by the trace", ours.get(at), theirs.get(at)));
+            }
+            Err(error) => self.wrong.push(format!("{name}: {error}")),
+        }
+    }
+
+    fn print(&self) -> bool {
+        let every = REASONS.iter().map(|&(reason, _)| Outcome::Discarded(reason)).chain((7..=12).map(Outcome::Refused));
+        let every: Vec<Outcome> = every.chain([Outcome::Accepted, Outcome::Discarded(Discard::HasStarted)]).collect();
+        for outcome in &every {
+            println!("  {:>10}  {outcome:?}", self.counts.get(outcome).unwrap_or(&0));
+        }
+        self.wrong.iter().for_each(|what| println!("{what}"));
+        let missed = every.iter().filter(|outcome| !self.counts.contains_key(outcome)).count();
+        println!("{} schedules told otherwise, {missed} outcomes that did not come up", self.wrong.len());
+        self.wrong.is_empty() && missed == 0
+    }
+}
+
+fn by_the_model(schedule: &[u8]) -> Outcomes {
+    let mut outcomes = Vec::new();
+    // A refused schedule has been watched up to its refused line.
+    let _ = replay::watched(schedule, Fault::None, &mut |line, net, event| outcomes.push((line, outcome(net, event))));
+    outcomes
+}
+
+fn outcome(net: &Net, event: &Event) -> Outcome {
+    let at = event.receiver();
+    let mut base = match Base::admit(&net.records[at - 1], Fault::None) {
+        Ok(base) => base,
+        Err(number) => return Outcome::Refused(number),
+    };
+    let (from, burst) = match event {
+        Event::Start { .. } => return base.start().discarded.map_or(Outcome::Accepted, Outcome::Discarded),
+        Event::Carry { from, k, .. } => (*from, &net.logs[from - 1][k - 1]),
+        Event::Forge { from, bytes, .. } => (*from, bytes),
+    };
+    match read(base.n, burst, Fault::None) {
+        Ok(frame) => base.arrive(link_to(at, from) - 1, frame.message).discarded.map_or(Outcome::Accepted, Outcome::Discarded),
+        Err(number) => Outcome::Refused(number),
+    }
+}
+
+fn traced(program: &str, schedule: &[u8]) -> Result<String, String> {
+    let told = |error: std::io::Error| format!("{program}: {error}");
+    let mut child = Command::new(program).stdin(Stdio::piped()).stdout(Stdio::piped()).spawn().map_err(told)?;
+    let mut input = child.stdin.take().ok_or("no standard input")?;
+    input.write_all(schedule).map_err(told)?;
+    drop(input);
+    let output = child.wait_with_output().map_err(told)?;
+    Ok(String::from_utf8_lossy(&output.stdout).into_owned())
+}
+
+/// `line 9: carry 1 2 1`, and under it what the line did.
+fn by_the_trace(trace: &str) -> Result<Outcomes, String> {
+    let mut outcomes: Outcomes = Vec::new();
+    let mut line = 0;
+    for text in trace.lines() {
+        if let Some((number, _)) = text.strip_prefix("line ").and_then(|rest| rest.split_once(": ")) {
+            line = number.parse().map_err(|_| format!("no line of a schedule: {text}"))?;
+        }
+        let Some(outcome) = text.strip_prefix("  base ").and_then(told_outcome) else { continue };
+        // An idle base starts before it hears.
+        outcomes.retain(|&(before, _)| before != line);
+        outcomes.push((line, outcome.map_err(|reason| format!("the model knows no reason {reason:?}"))?));
+    }
+    Ok(outcomes)
+}
+
+/// Of a line that says what became of an event; or the words of a reason that there is not.
+fn told_outcome(text: &str) -> Option<Result<Outcome, String>> {
+    let said = text.split_once(" on link ").and_then(|(_, rest)| rest.split_once(": ")).map(|(_, said)| said);
+    match said {
+        None if text.ends_with(" starts") => Some(Ok(Outcome::Accepted)),
+        None if text.ends_with(" has started: discarded") => Some(Ok(Outcome::Discarded(Discard::HasStarted))),
+        None => None,
+        Some("accepted") => Some(Ok(Outcome::Accepted)),
+        Some(said) => Some(told_reason(said)),
+    }
+}
+
+/// `discarded, the link has an Announce` or `refused by 7, ..`
+fn told_reason(said: &str) -> Result<Outcome, String> {
+    let number = said.strip_prefix("refused by ").and_then(|rest| rest.split(',').next()?.parse().ok());
+    let reason = said.strip_prefix("discarded, ").and_then(|words| REASONS.iter().find(|(_, known)| *known == words));
+    reason.map(|&(reason, _)| Outcome::Discarded(reason)).or(number.map(Outcome::Refused)).ok_or(said.to_string())
+}

@@ -1,0 +1,81 @@
+//! Every must-fail edit stands in a table of the papers, and every edit named there exists. None is refused by a mere misfit.
+//!
+//! In docs/PROMISES.md a table whose last head speaks of wrong programs or definitions has a crate in each row's first cell (`CRATE::..`)
+//! and its edits in the last; a part of that cell, between semicolons, names another crate in brackets at its end. In docs/AGREEMENT.md a
+//! table of edits has one of `protocol` in each row.
+
+use crate::files::{below, text_of};
+use crate::tables::{backticked, tables};
+use std::collections::BTreeSet;
+
+/// A crate and the name of an edit of it.
+type Edit = (String, String);
+
+/// What the prover says of a proof that no longer fits the code: the edit changed the code's shape, and shows nothing.
+const MISFITS: [&str; 2] = ["has no field", "has no `Need-"];
+
+pub fn check() -> Result<String, Vec<String>> {
+    let there = there();
+    let promises = text_of("docs/PROMISES.md").map_err(|error| vec![error])?;
+    let agreement = text_of("docs/AGREEMENT.md").map_err(|error| vec![error])?;
+    let named: BTreeSet<Edit> = promised(&promises).into_iter().chain(told(&agreement)).collect();
+    let missing = there.difference(&named).map(|(krate, name)| format!("crates/{krate}/must-fail/{name}.edit stands in no table"));
+    let lost = named.difference(&there).map(|(krate, name)| format!("{name} of {krate} stands in a table, and there is no such edit"));
+    let wrong: Vec<String> = missing.chain(lost).collect();
+    match wrong.is_empty() {
+        true => Ok(format!("{} edits, each in a table", there.len())),
+        false => Err(wrong),
+    }
+}
+
+fn there() -> BTreeSet<Edit> {
+    let edits = below("crates", ".edit");
+    let parts = edits.iter().filter_map(|file| file.path.strip_prefix("crates/")?.strip_suffix(".edit")?.split_once("/must-fail/"));
+    parts.map(|(krate, name)| (krate.to_string(), name.to_string())).collect()
+}
+
+fn promised(page: &str) -> Vec<Edit> {
+    let of_edits = tables(page).into_iter().filter(|table| table.heads.last().is_some_and(|head| head.to_lowercase().contains("wrong")));
+    of_edits.flat_map(|table| table.rows).flat_map(|cells| edits_of(cells[0], cells[cells.len() - 1])).collect()
+}
+
+fn edits_of(first: &str, last: &str) -> Vec<Edit> {
+    let own = backticked(first).next().and_then(|call| call.split("::").next()).unwrap_or_default();
+    let mut found = Vec::new();
+    for part in last.split(';') {
+        let (names, krate) = match part.split_once('(') {
+            Some((names, other)) => (names, backticked(other).next().unwrap_or_default()),
+            None => (part, own),
+        };
+        found.extend(backticked(names).map(|name| (krate.to_string(), name.to_string())));
+    }
+    found
+}
+
+fn told(page: &str) -> Vec<Edit> {
+    let of_edits = tables(page).into_iter().filter(|table| table.heads[0] == "Edit");
+    let names = of_edits.flat_map(|table| table.rows).flat_map(|cells| backticked(cells[0]));
+    names.map(|name| ("protocol".to_string(), name.to_string())).collect()
+}
+
+/// Every edit has been tried, and none was refused by a misfit.
+pub fn check_tried() -> Result<String, Vec<String>> {
+    let (mut wrong, mut untried) = (Vec::new(), 0);
+    let there = there();
+    for (krate, name) in &there {
+        match text_of(&format!("target/must-fail/{krate}/{name}/.log")) {
+            Ok(log) => {
+                let misfits = MISFITS.iter().filter(|words| log.contains(*words));
+                wrong.extend(misfits.map(|words| format!("{name} of {krate} is refused by a misfit: {words}")));
+            }
+            Err(_) => untried += 1,
+        }
+    }
+    if untried > 0 {
+        wrong.push(format!("{untried} edits have not been tried here; rt ci tries them"));
+    }
+    match wrong.is_empty() {
+        true => Ok(format!("{} edits tried, none refused by a misfit", there.len())),
+        false => Err(wrong),
+    }
+}

@@ -1,0 +1,80 @@
+//! Which part of a trace is drawn: some lines of the schedule, some bases, with or without what stopped bases throw away.
+
+use crate::trace::{End, Event, State, Trace};
+
+#[derive(Default)]
+pub struct Cut {
+    /// The first and the last line of the schedule.
+    pub lines: Option<(usize, usize)>,
+    /// In ascending order.
+    pub bases: Option<Vec<usize>>,
+    pub without_stopped: bool,
+}
+
+/// The part that is drawn.
+pub struct Shown {
+    /// Places among the trace's events, in ascending order.
+    pub events: Vec<usize>,
+    /// In ascending order.
+    pub bases: Vec<usize>,
+    /// What is drawn, where it is not all.
+    pub told: Option<String>,
+    /// The states behind the last line of the cut.
+    pub states: Vec<State>,
+    /// Whether the schedule's end is drawn.
+    pub whole_end: bool,
+}
+
+impl Cut {
+    pub fn of(&self, trace: &Trace) -> Result<Shown, String> {
+        let all: Vec<usize> = (1..=trace.n()).collect();
+        let bases = self.bases.clone().unwrap_or(all);
+        if let Some(b) = bases.iter().find(|&&b| b < 1 || b > trace.n()) {
+            return Err(format!("the net has no base {b}"));
+        }
+        let last = self.lines.map_or(usize::MAX, |(_, last)| last);
+        let until = trace.events.iter().take_while(|event| event.line <= last).count();
+        let events: Vec<usize> = (0..until).filter(|&i| self.shows(trace, &bases, i)).collect();
+        if events.is_empty() && !trace.events.is_empty() {
+            return Err("nothing happens there".to_string());
+        }
+        let whole_end = until == trace.events.len();
+        let states = match &trace.end {
+            End::Report { bases, .. } if whole_end => bases.clone(),
+            _ => trace.states_after(until),
+        };
+        Ok(Shown { events, bases, told: self.told(), states, whole_end })
+    }
+
+    fn shows(&self, trace: &Trace, bases: &[usize], i: usize) -> bool {
+        let event = &trace.events[i];
+        let first = self.lines.map_or(0, |(first, _)| first);
+        let concerned = self.bases.is_none() || bases.contains(&event.at);
+        event.line >= first && concerned && !(self.without_stopped && thrown_away(trace, event, i))
+    }
+
+    /// "lines 40 to 90, without what stopped bases discard"
+    fn told(&self) -> Option<String> {
+        let lines = self.lines.map(|(first, last)| format!("lines {first} to {last}"));
+        let heard = |bases: &Vec<usize>| format!("what is heard at {} (a number in a box is another base)", bases_in_words(bases));
+        let bases = self.bases.as_ref().map(heard);
+        let stopped = self.without_stopped.then(|| "without what stopped bases discard".to_string());
+        let told: Vec<String> = [lines, bases, stopped].into_iter().flatten().collect();
+        (!told.is_empty()).then(|| told.join(", "))
+    }
+}
+
+/// Whether the event is discarded by a base that has stopped before.
+fn thrown_away(trace: &Trace, event: &Event, i: usize) -> bool {
+    event.discarded() && trace.events[..i].iter().any(|before| before.at == event.at && before.stop.is_some())
+}
+
+/// "base 3" or "bases 1, 3 and 4"
+pub fn bases_in_words(bases: &[usize]) -> String {
+    let numbers: Vec<String> = bases.iter().map(usize::to_string).collect();
+    match numbers.split_last() {
+        None => String::new(),
+        Some((last, [])) => format!("base {last}"),
+        Some((last, others)) => format!("bases {} and {last}", others.join(", ")),
+    }
+}

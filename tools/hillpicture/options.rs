@@ -1,0 +1,43 @@
+//! The command line.
+
+use crate::cut::Cut;
+
+pub const USAGE: &str = "usage: hillpicture [--lines A-B] [--bases B,B..] [--without-stopped] [--pages] < trace > picture
+  --lines A-B         lines A to B of the schedule
+  --bases B,B..       what these bases hear and do
+  --without-stopped   without what stopped bases discard
+  --pages             pages that print, as one HTML file; else one SVG file";
+
+pub enum Wish {
+    Help,
+    Picture { cut: Cut, pages: bool },
+}
+
+pub fn of(words: &[String]) -> Result<Wish, String> {
+    let (mut cut, mut pages) = (Cut::default(), false);
+    let mut words = words.iter();
+    while let Some(word) = words.next() {
+        match word.as_str() {
+            "--help" | "-h" => return Ok(Wish::Help),
+            "--pages" => pages = true,
+            "--without-stopped" => cut.without_stopped = true,
+            "--lines" => cut.lines = Some(words.next().and_then(|word| lines_of(word)).ok_or("--lines takes A-B, as 40-90")?),
+            "--bases" => cut.bases = Some(words.next().and_then(|word| bases_of(word)).ok_or("--bases takes B,B.., as 1,3,4")?),
+            other => return Err(format!("takes no argument {other:?}")),
+        }
+    }
+    Ok(Wish::Picture { cut, pages })
+}
+
+fn lines_of(word: &str) -> Option<(usize, usize)> {
+    let (first, last) = word.split_once('-')?;
+    let (first, last) = (first.parse().ok()?, last.parse().ok()?);
+    (first <= last).then_some((first, last))
+}
+
+fn bases_of(word: &str) -> Option<Vec<usize>> {
+    let mut bases: Vec<usize> = word.split(',').map(|word| word.parse().ok()).collect::<Option<_>>()?;
+    bases.sort_unstable();
+    bases.dedup();
+    Some(bases)
+}
