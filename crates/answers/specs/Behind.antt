@@ -1,4 +1,5 @@
--- "An idle base starts first": the answer of a first message, behind the two frames of the start. A running base's message that is its first broadcasts at most one frame.
+-- "An idle base starts first": the answer of a first message, behind the two frames of the start. A running base's message that is
+-- its first broadcasts at most one frame.
 use Rattle.limits.specs.Limits.{frameBytes}
 use Rattle.protocol.specs.declared.Outcome.{Outcome}
 use Rattle.protocol.specs.declared.Outcome.the-variants.{Accepted, Discarded, Refused}

@@ -47,22 +47,37 @@ pub record Gathered (b : Base) (i : ℕ) (ids : List ℕ) (k : ℕ) : Type 0 whe
 module _ (b : Base) (array : List ℕ) (count : ℕ) where
   pub gather-first : (i : ℕ) → i ≡ linkCount b → array ≡ padTo mostBases (b .own ∷ []) → count ≡ 1 → Gathered b i array count
   unfolding certified
-  gather-first i h e f = record { some = b .own ∷ []; array = e; count = f; rest = ap (λ (k : ℕ). b .own ∷ announced k (linkAt b)) h; room = omega (arith, link-room b) }
+  gather-first i h e f = record {
+    some = b .own ∷ [];
+    array = e;
+    count = f;
+    rest = ap (λ (k : ℕ). b .own ∷ announced k (linkAt b)) h;
+    room = omega (arith, link-room b);
+  }
 
-  gather-next : (i : ℕ) → Gathered b (suc i) array count → announces (linkAt b i) ≡ true → Gathered b i (set array count (linkAt b i .announce)) (count + 1)
+  gather-next : (i : ℕ) → Gathered b (suc i) array count
+      → announces (linkAt b i) ≡ true → Gathered b i (set array count (linkAt b i .announce)) (count + 1)
   gather-next i G e = let g = linkAt b i .announce in record {
     some = G .some ++ (g ∷ []);
     array = ap (λ (a : List ℕ). set a count g) (G .array) ∙ pad-next mostBases (G .some) count g (sym (G .count)) (omega (arith, G .room));
     count = omega (arith, G .count, length-append (G .some) (g ∷ []));
-    rest = append-assoc (G .some) (g ∷ []) (announced i (linkAt b)) ∙ ap (λ (l : List ℕ). G .some ++ l) (sym (announced-next i (linkAt b) e)) ∙ G .rest;
+    rest = append-assoc (G .some) (g ∷ []) (announced i (linkAt b))
+        ∙ ap (λ (l : List ℕ). G .some ++ l) (sym (announced-next i (linkAt b) e)) ∙ G .rest;
     room = omega (arith, G .room);
   }
 
   gather-skip : (i : ℕ) → Gathered b (suc i) array count → announces (linkAt b i) ≡ false → Gathered b i array count
-  gather-skip i G e = record { some = G .some; array = G .array; count = G .count; rest = ap (λ (l : List ℕ). G .some ++ l) (sym (announced-skip i (linkAt b) e)) ∙ G .rest; room = omega (arith, G .room) }
+  gather-skip i G e = record {
+    some = G .some;
+    array = G .array;
+    count = G .count;
+    rest = ap (λ (l : List ℕ). G .some ++ l) (sym (announced-skip i (linkAt b) e)) ∙ G .rest;
+    room = omega (arith, G .room);
+  }
 
   -- from place i to the one before
-  pub gather-taken : (i : ℕ) → 0 < i → Gathered b i array count → announces (linkAt b (i - 1)) ≡ true → Gathered b (i - 1) (set array count (linkAt b (i - 1) .announce)) (count + 1)
+  pub gather-taken : (i : ℕ) → 0 < i → Gathered b i array count
+      → announces (linkAt b (i - 1)) ≡ true → Gathered b (i - 1) (set array count (linkAt b (i - 1) .announce)) (count + 1)
   gather-taken i h G = let e : i ≡ suc (i - 1) = omega arith in gather-next (i - 1) (subst (λ (j : ℕ). Gathered b j array count) e G)
 
   pub gather-left : (i : ℕ) → 0 < i → Gathered b i array count → announces (linkAt b (i - 1)) ≡ false → Gathered b (i - 1) array count

@@ -22,7 +22,8 @@ ghost use Rattle.engine.specs.Parts.{Burst, Ready, messageIn};
 // A message that was read, on the link at place i.
 fn step(base: Base, i: usize, kind: u8, ids: [u32; MOST_BASES], out: &mut [u8]) -> Step
     requires { ⌜ Ready base i × (Burst (base .n) kind ids × (outputRoom ≤ length (now out))) ⌝ }
-    ensures { λ r. ⌜ (r ≡ stepOf (arrivalStep base i (messageIn (base .n) kind ids))) × (now (out .exit) ≡ outputOf (arrivalStep base i (messageIn (base .n) kind ids)) (now (out .entry))) ⌝ }
+    ensures { λ r. ⌜ (r ≡ stepOf (arrivalStep base i (messageIn (base .n) kind ids)))
+        × (now (out .exit) ≡ outputOf (arrivalStep base i (messageIn (base .n) kind ids)) (now (out .entry))) ⌝ }
 {
     if 2 <= base.state {
         return discarded(base);
@@ -43,7 +44,8 @@ fn step(base: Base, i: usize, kind: u8, ids: [u32; MOST_BASES], out: &mut [u8]) 
 
 // A burst arrives on a link, 1 to n - 1. Turned down by 1 to 12.
 pub fn arrive(base: Base, link: usize, burst: &[u8], out: &mut [u8]) -> Step
-    ensures { λ r. ⌜ (r ≡ stepOf (arrival base link (now (burst .entry)) (length (now (out .entry))))) × (now (out .exit) ≡ outputOf (arrival base link (now (burst .entry)) (length (now (out .entry)))) (now (out .entry))) ⌝ }
+    ensures { λ r. ⌜ (r ≡ stepOf (arrival base link (now (burst .entry)) (length (now (out .entry)))))
+        × (now (out .exit) ≡ outputOf (arrival base link (now (burst .entry)) (length (now (out .entry)))) (now (out .entry))) ⌝ }
 {
     let refusal = place_refusal(base, link, out.len());
     if refusal != 0 {

@@ -16,8 +16,10 @@ ghost use Rattle.engine.specs.Parts.{Holds, Place, voteAndCheck};
 
 // The vote and the secondary check on the first n identifiers of v, once they are held.
 fn vote_and_check(base: Base, v: [u32; MOST_BASES], out: &mut [u8]) -> Step
-    requires { ⌜ (base .n ≤ mostBases) × (Holds (base .n) v × (length (encodeAll (voteAndCheck base (take (base .n) v) .says)) ≤ length (now out))) ⌝ }
-    ensures { λ r. ⌜ (r ≡ stepOf (voteAndCheck base (take (base .n) v))) × (now (out .exit) ≡ outputOf (voteAndCheck base (take (base .n) v)) (now (out .entry))) ⌝ }
+    requires { ⌜ (base .n ≤ mostBases)
+        × (Holds (base .n) v × (length (encodeAll (voteAndCheck base (take (base .n) v) .says)) ≤ length (now out))) ⌝ }
+    ensures { λ r. ⌜ (r ≡ stepOf (voteAndCheck base (take (base .n) v)))
+        × (now (out .exit) ≡ outputOf (voteAndCheck base (take (base .n) v)) (now (out .entry))) ⌝ }
 {
     if !is_vote(base, v) {
         let checked = secondary_check(base, v, out);
@@ -33,8 +35,10 @@ fn vote_and_check(base: Base, v: [u32; MOST_BASES], out: &mut [u8]) -> Step
 }
 
 pub(crate) fn on_correct_final(base: Base, i: usize, v: [u32; MOST_BASES], out: &mut [u8]) -> Step
-    requires { ⌜ Place base i × (Holds (base .n) v × (length (encodeAll (onCorrectFinal base i (take (base .n) v) .says)) ≤ length (now out))) ⌝ }
-    ensures { λ r. ⌜ (r ≡ stepOf (onCorrectFinal base i (take (base .n) v))) × (now (out .exit) ≡ outputOf (onCorrectFinal base i (take (base .n) v)) (now (out .entry))) ⌝ }
+    requires { ⌜ Place base i
+        × (Holds (base .n) v × (length (encodeAll (onCorrectFinal base i (take (base .n) v) .says)) ≤ length (now out))) ⌝ }
+    ensures { λ r. ⌜ (r ≡ stepOf (onCorrectFinal base i (take (base .n) v)))
+        × (now (out .exit) ≡ outputOf (onCorrectFinal base i (take (base .n) v)) (now (out .entry))) ⌝ }
 {
     let mut link = base.links[i];
     if link.held == 3 {

@@ -1,5 +1,5 @@
-// One base's agreement engine: a start, and an arrival on a link. A record goes in by value and comes back beside the answer; frames go into
-// the output that is lent, one after another.
+// One base's agreement engine: a start, and an arrival on a link. A record goes in by value and comes back beside the answer;
+// frames go into the output that is lent, one after another.
 mod announce;
 pub mod arrival;
 mod begin;

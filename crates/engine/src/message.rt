@@ -20,8 +20,10 @@ pub(crate) fn on_message(
     ids: [u32; MOST_BASES],
     out: &mut [u8],
 ) -> Step
-    requires { ⌜ Place base i × (Burst (base .n) kind ids × (length (encodeAll (onMessage base i (messageIn (base .n) kind ids) .says)) ≤ length (now out))) ⌝ }
-    ensures { λ r. ⌜ (r ≡ stepOf (onMessage base i (messageIn (base .n) kind ids))) × (now (out .exit) ≡ outputOf (onMessage base i (messageIn (base .n) kind ids)) (now (out .entry))) ⌝ }
+    requires { ⌜ Place base i × (Burst (base .n) kind ids
+        × (length (encodeAll (onMessage base i (messageIn (base .n) kind ids) .says)) ≤ length (now out))) ⌝ }
+    ensures { λ r. ⌜ (r ≡ stepOf (onMessage base i (messageIn (base .n) kind ids)))
+        × (now (out .exit) ≡ outputOf (onMessage base i (messageIn (base .n) kind ids)) (now (out .entry))) ⌝ }
 {
     let g = ids[0];
     match kind {

@@ -12,7 +12,8 @@ ghost use Rattle.protocol.specs.Steps as Steps;
 
 // Starts an idle base: Announce and Verify of its own identifier. Turned down by 1 to 4 and 6.
 pub fn start(base: Base, out: &mut [u8]) -> Step
-    ensures { λ r. ⌜ (r ≡ stepOf (Steps.start base (length (now (out .entry))))) × (now (out .exit) ≡ outputOf (Steps.start base (length (now (out .entry)))) (now (out .entry))) ⌝ }
+    ensures { λ r. ⌜ (r ≡ stepOf (Steps.start base (length (now (out .entry)))))
+        × (now (out .exit) ≡ outputOf (Steps.start base (length (now (out .entry)))) (now (out .entry))) ⌝ }
 {
     let refusal = start_refusal(base, out.len());
     if refusal != 0 {

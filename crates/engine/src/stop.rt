@@ -21,7 +21,8 @@ pub struct Checked {
 
 fn stop(base: Base, state: u8, list: [u32; MOST_BASES], out: &mut [u8]) -> Checked
     requires { ⌜ (base .n ≤ mostBases) × (Holds (base .n) list × (frameBytes (base .n) ≤ length (now out))) ⌝ }
-    ensures { λ r. ⌜ (r ≡ checkedOf (stops base state (take (base .n) list) [])) × (now (out .exit) ≡ outputOf (stops base state (take (base .n) list) []) (now (out .entry))) ⌝ }
+    ensures { λ r. ⌜ (r ≡ checkedOf (stops base state (take (base .n) list) []))
+        × (now (out .exit) ≡ outputOf (stops base state (take (base .n) list) []) (now (out .entry))) ⌝ }
 {
     let length = say_list(3, base.n, list, out);
     let mut next = base;
@@ -42,8 +43,10 @@ pub(crate) fn prime_check(base: Base, out: &mut [u8]) -> Checked
 
 // On the first n identifiers of v.
 pub(crate) fn secondary_check(base: Base, v: [u32; MOST_BASES], out: &mut [u8]) -> Checked
-    requires { ⌜ (base .n ≤ mostBases) × (Holds (base .n) v × (length (encodeAll (secondaryCheck base (take (base .n) v) [] .says)) ≤ length (now out))) ⌝ }
-    ensures { λ r. ⌜ (r ≡ checkedOf (secondaryCheck base (take (base .n) v) [])) × (now (out .exit) ≡ outputOf (secondaryCheck base (take (base .n) v) []) (now (out .entry))) ⌝ }
+    requires { ⌜ (base .n ≤ mostBases)
+        × (Holds (base .n) v × (length (encodeAll (secondaryCheck base (take (base .n) v) [] .says)) ≤ length (now out))) ⌝ }
+    ensures { λ r. ⌜ (r ≡ checkedOf (secondaryCheck base (take (base .n) v) []))
+        × (now (out .exit) ≡ outputOf (secondaryCheck base (take (base .n) v) []) (now (out .entry))) ⌝ }
 {
     if !is_secondary(base, v) {
         return Checked { base, length: 0 };

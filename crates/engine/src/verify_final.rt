@@ -12,8 +12,10 @@ ghost use Rattle.protocol.specs.Steps.{onVerifyFinal, encodeAll, stepOf, output
 ghost use Rattle.engine.specs.Parts.{Holds, Place};
 
 pub(crate) fn on_verify_final(base: Base, i: usize, v: [u32; MOST_BASES], out: &mut [u8]) -> Step
-    requires { ⌜ Place base i × (Holds (base .n) v × (length (encodeAll (onVerifyFinal base i (take (base .n) v) .says)) ≤ length (now out))) ⌝ }
-    ensures { λ r. ⌜ (r ≡ stepOf (onVerifyFinal base i (take (base .n) v))) × (now (out .exit) ≡ outputOf (onVerifyFinal base i (take (base .n) v)) (now (out .entry))) ⌝ }
+    requires { ⌜ Place base i
+        × (Holds (base .n) v × (length (encodeAll (onVerifyFinal base i (take (base .n) v) .says)) ≤ length (now out))) ⌝ }
+    ensures { λ r. ⌜ (r ≡ stepOf (onVerifyFinal base i (take (base .n) v)))
+        × (now (out .exit) ≡ outputOf (onVerifyFinal base i (take (base .n) v)) (now (out .entry))) ⌝ }
 {
     let mut link = base.links[i];
     if link.held != 0 {

@@ -1,5 +1,5 @@
--- What an event does to the program's net. The call, and the number by which the event is turned down, are those of protocol's Net, for the net that the
--- program's net stands for.
+-- What an event does to the program's net. The call, and the number by which the event is turned down, are those of protocol's Net,
+-- for the net that the program's net stands for.
 use Prim.Native.Nat.{ℕ, _-_}
 use mathlib.Core.List.{List, []}
 use lib.Dec.{eqb, ltb}
@@ -26,9 +26,11 @@ marks (forge a b bytes room) v = v
 
 -- "An event that is turned down, by 16 to 18 or by the base's call, changes nothing"
 unfoldable pub after : Net → Event → Net
-after w e = choose (eqb (refusal (faultyOf w) (shown w) e) 0) (withNode w (at e) (marks e (Nodes.nodeAfter (nodeAt w (at e)) (call (shown w) e)))) w
+after w e = choose (eqb (refusal (faultyOf w) (shown w) e) 0)
+    (withNode w (at e) (marks e (Nodes.nodeAfter (nodeAt w (at e)) (call (shown w) e)))) w
 
--- the net after an event, beside the number by which a line of a schedule is refused: a burst that the base's call turns down leaves the schedule running
+-- the net after an event, beside the number by which a line of a schedule is refused: a burst that the base's call turns down
+-- leaves the schedule running
 pub record Moved : Type 0 where
   pub refusal : ℕ
   pub net : Net

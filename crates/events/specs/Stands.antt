@@ -1,5 +1,5 @@
--- The program's net stands for a net of document 01 ("The net over a whole history"), from the beginning and through every event of a history. So what the
--- agreement theorem says of that net it says of what the program keeps.
+-- The program's net stands for a net of document 01 ("The net over a whole history"), from the beginning and through every event of
+-- a history. So what the agreement theorem says of that net it says of what the program keeps.
 use Prim.Native.Nat.{ℕ, _<_}
 use mathlib.Core.Path.{_≡_}
 use mathlib.Core.List.{List}

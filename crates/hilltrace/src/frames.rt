@@ -17,7 +17,8 @@ fn broadcast(b: u8, n: u8, number: usize, frame: &[u8]) {
     say::text(b"\n");
 }
 
-// The length of a frame that is to be shown: one before the check, or else the Correct-Final of a base that stops. Next is the length of the frame behind it.
+// The length of a frame that is to be shown: one before the check, or else the Correct-Final of a base that stops. Next is the
+// length of the frame behind it.
 fn shown(length: usize, next: usize, stops: bool, last: bool) -> usize {
     let mut is_last = false;
     if stops {

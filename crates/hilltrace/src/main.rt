@@ -1,5 +1,5 @@
-// Shows a schedule of standard input line by line: what each event did, what was broadcast, and the figures of the checks; then the report, as
-// hillreplay prints it. What goes wrong on the way is said on standard error, in one line.
+// Shows a schedule of standard input line by line: what each event did, what was broadcast, and the figures of the checks; then the
+// report, as hillreplay prints it. What goes wrong on the way is said on standard error, in one line.
 mod call;
 mod event;
 mod figures;

@@ -9,7 +9,9 @@ ghost use Rattle.protocol.specs.Steps as Steps;
 
 // Starts an idle base. Turned down by 1 to 4 and 6.
 pub fn start(base: &mut Base, out: &mut [u8]) -> Outcome
-    ensures { λ r. ⌜ (r ≡ stepOf (Steps.start (now (base .entry)) (length (now (out .entry)))) .outcome) × ((now (base .exit) ≡ stepOf (Steps.start (now (base .entry)) (length (now (out .entry)))) .base) × (now (out .exit) ≡ outputOf (Steps.start (now (base .entry)) (length (now (out .entry)))) (now (out .entry)))) ⌝ }
+    ensures { λ r. ⌜ (r ≡ stepOf (Steps.start (now (base .entry)) (length (now (out .entry)))) .outcome)
+        × ((now (base .exit) ≡ stepOf (Steps.start (now (base .entry)) (length (now (out .entry)))) .base)
+        × (now (out .exit) ≡ outputOf (Steps.start (now (base .entry)) (length (now (out .entry)))) (now (out .entry)))) ⌝ }
 {
     let b = *base;
     let s = engine::start::start(b, out);
@@ -20,7 +22,10 @@ pub fn start(base: &mut Base, out: &mut [u8]) -> Outcome
 
 // A burst arrives on a link, 1 to n - 1. Turned down by 1 to 12.
 pub fn arrive(base: &mut Base, link: usize, burst: &[u8], out: &mut [u8]) -> Outcome
-    ensures { λ r. ⌜ (r ≡ stepOf (arrival (now (base .entry)) link (now (burst .entry)) (length (now (out .entry)))) .outcome) × ((now (base .exit) ≡ stepOf (arrival (now (base .entry)) link (now (burst .entry)) (length (now (out .entry)))) .base) × (now (out .exit) ≡ outputOf (arrival (now (base .entry)) link (now (burst .entry)) (length (now (out .entry)))) (now (out .entry)))) ⌝ }
+    ensures { λ r. ⌜ (r ≡ stepOf (arrival (now (base .entry)) link (now (burst .entry)) (length (now (out .entry)))) .outcome)
+        × ((now (base .exit) ≡ stepOf (arrival (now (base .entry)) link (now (burst .entry)) (length (now (out .entry)))) .base)
+        × (now (out .exit)
+        ≡ outputOf (arrival (now (base .entry)) link (now (burst .entry)) (length (now (out .entry)))) (now (out .entry)))) ⌝ }
 {
     let b = *base;
     let s = engine::arrival::arrive(b, link, burst, out);

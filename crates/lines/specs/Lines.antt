@@ -1,5 +1,6 @@
--- The form of a schedule's lines (document 01, "The replay program"): "Lines end in a line feed; single spaces; decimal without leading zeros [..]; a and b are
--- two different bases of the net, k is above zero". A reader at position p of a text s answers what the line names and the position behind its line feed.
+-- The form of a schedule's lines (document 01, "The replay program"): "Lines end in a line feed; single spaces; decimal without
+-- leading zeros [..]; a and b are two different bases of the net, k is above zero". A reader at position p of a text s answers what
+-- the line names and the position behind its line feed.
 use Prim.Native.Nat.{ℕ}
 use mathlib.Core.Bool.{Bool, not}
 use mathlib.Core.List.{List, [], _∷_}

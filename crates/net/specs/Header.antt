@@ -16,7 +16,12 @@ pub mod Laws
 
 -- `net n t`
 unfoldable pub madeNet : ℕ → ℕ → Net
-madeNet n t = record { n = n; t = t; faulty = record { count = 0; pairs = replicate faultyRoom noPair }; nodes = replicate mostBases (emptyNode n t) }
+madeNet n t = record {
+  n = n;
+  t = t;
+  faulty = record { count = 0; pairs = replicate faultyRoom noPair };
+  nodes = replicate mostBases (emptyNode n t);
+}
 
 -- `id b v`: base b is idle, and v is its own identifier
 unfoldable pub namedNet : Net → ℕ → ℕ → Net
@@ -39,7 +44,12 @@ idRefusal W v =
 unfoldable pub withFaulty : Net → ℕ → ℕ → Net
 withFaulty w a b =
     let f = w .faulty in
-    choose (ltb (f .count) faultyRoom) (record { n = w .n; t = w .t; faulty = record { count = f .count + 1; pairs = set (f .pairs) (f .count) (record { one = a; other = b }) }; nodes = w .nodes })
+    choose (ltb (f .count) faultyRoom) (record {
+      n = w .n;
+      t = w .t;
+      faulty = record { count = f .count + 1; pairs = set (f .pairs) (f .count) (record { one = a; other = b }) };
+      nodes = w .nodes;
+    })
     w
 
 -- 15. More than t links are named faulty: where t are named already, one more is too many.

@@ -1,5 +1,5 @@
-// A whole net as the program keeps it: one node a base, and the links that are faulty. specs/Shown.antt says which net of document 01 it stands
-// for.
+// A whole net as the program keeps it: one node a base, and the links that are faulty. specs/Shown.antt says which net of document
+// 01 it stands for.
 pub mod links;
 pub mod made;
 pub mod nodes;

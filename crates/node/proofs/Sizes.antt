@@ -20,4 +20,5 @@ pub node-base : (v : Node) (vs : List Val) → Is N.the-row v vs → Sized (v .b
 node-base v vs p = base-sized (v .base) _ (p .1 .1 .0)
 
 pub node-sized : (v : Node) (vs : List Val) → Is N.the-row v vs → SizedNode v
-node-sized v vs p = record { frames = simp length-map at (p .1 .1 .1 .1 .0 .1 .0 .1); heard = simp length-map at (p .1 .1 .1 .1 .1 .0 .1 .0 .1) }
+node-sized v vs p =
+    record { frames = simp length-map at (p .1 .1 .1 .1 .0 .1 .0 .1); heard = simp length-map at (p .1 .1 .1 .1 .1 .0 .1 .0 .1) }

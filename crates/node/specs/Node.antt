@@ -1,4 +1,5 @@
--- What a base of the program's net stands for: its record, its broadcasts, and the carries made to it ("The net over a whole history", document 01).
+-- What a base of the program's net stands for: its record, its broadcasts, and the carries made to it ("The net over a whole
+-- history", document 01).
 use Prim.Native.Nat.{ℕ, _+_, _*_, _-_}
 use mathlib.Core.Bool.{Bool, not}
 use mathlib.Core.List.{List, [], _∷_, map}
@@ -55,7 +56,8 @@ frameAt v k = choose (ltb (k - 1) (length (logOf v))) (getD (v .frames) (k - 1) 
 -- one broadcast more, while there is room: in a history there always is
 unfoldable pub joined : Node → List ℕ → Node
 joined v bytes =
-    choose (ltb (v .count) mostBroadcasts) (record { base = v .base; count = v .count + 1; frames = set (v .frames) (v .count) (storedFrame bytes); heard = v .heard })
+    choose (ltb (v .count) mostBroadcasts)
+    (record { base = v .base; count = v .count + 1; frames = set (v .frames) (v .count) (storedFrame bytes); heard = v .heard })
     v
 
 -- "Frames written join b's broadcasts in their order"
@@ -81,5 +83,6 @@ heardBy v a k = and (inRange a mostBases) (and (inRange k mostBroadcasts) (not (
 
 unfoldable pub marked : Node → ℕ → ℕ → Node
 marked v a k =
-    choose (and (inRange a mostBases) (inRange k mostBroadcasts)) (record { base = v .base; count = v .count; frames = v .frames; heard = set (v .heard) (markPlace a k) 1 })
+    choose (and (inRange a mostBases) (inRange k mostBroadcasts))
+    (record { base = v .base; count = v .count; frames = v .frames; heard = set (v .heard) (markPlace a k) 1 })
     v

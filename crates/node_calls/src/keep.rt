@@ -53,7 +53,8 @@ pub(crate) fn keep_three(
     second: usize,
     third: usize,
 ) -> Node
-    requires { ⌜ (first ≤ longestFrame) × ((second ≤ longestFrame) × ((third ≤ longestFrame) × (first + second + third ≤ length (now out)))) ⌝ }
+    requires { ⌜ (first ≤ longestFrame)
+        × ((second ≤ longestFrame) × ((third ≤ longestFrame) × (first + second + third ≤ length (now out)))) ⌝ }
     ensures { λ r. ⌜ r ≡ threeKept node base (now (out .entry)) first second third ⌝ }
 {
     let mut after = node;

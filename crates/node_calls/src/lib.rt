@@ -1,4 +1,5 @@
-// Calls on the record of a base of the program's net: a start, and an arrival on a link. The frames that a call writes join the base's broadcasts.
+// Calls on the record of a base of the program's net: a start, and an arrival on a link. The frames that a call writes join the
+// base's broadcasts.
 mod keep;
 
 use crate::keep::keep_three;

@@ -1,4 +1,5 @@
--- What the program keeps while it reads a schedule, line by line: the steps of `schedule/specs/Story`, with the program's net for the net that it stands for.
+-- What the program keeps while it reads a schedule, line by line: the steps of `schedule/specs/Story`, with the program's net for
+-- the net that it stands for.
 use Prim.Native.Nat.{ℕ, zero, suc, _+_, _*_, _-_, _^_, _≤_}
 use mathlib.Core.Bool.{not}
 use mathlib.Core.List.{List, _++_}
@@ -47,12 +48,14 @@ repeatPlay (suc k) f p = f (repeatPlay k f p)
 
 -- ---- the header
 unfoldable pub netPlay : List ℕ → Play
-netPlay s = afterTwo (netLine s 0) (refusedPlay 13 unreadPlay) (λ n t next. judgedPlay (sizeRefusal n t) unreadPlay (onwardPlay unreadPlay (madeNet n t) next))
+netPlay s = afterTwo (netLine s 0)
+    (refusedPlay 13 unreadPlay) (λ n t next. judgedPlay (sizeRefusal n t) unreadPlay (onwardPlay unreadPlay (madeNet n t) next))
 
 unfoldable pub idPlay : List ℕ → ℕ → Play → Play
 idPlay s b p =
     unlessRefusedPlay p
-    (afterNumber (idLine b s (p .at)) (refusedPlay 13 p) (λ v next. judgedPlay (idRefusal (shown (p .net)) v) p (onwardPlay p (namedNet (p .net) b v) next)))
+    (afterNumber (idLine b s (p .at))
+    (refusedPlay 13 p) (λ v next. judgedPlay (idRefusal (shown (p .net)) v) p (onwardPlay p (namedNet (p .net) b v) next)))
 
 unfoldable pub idPlays : List ℕ → ℕ → Play → Play
 idPlays s zero p = p

@@ -67,23 +67,32 @@ module _ (w : Net) (few : w .n ≤ mostBases) where
   place-is b B = choose-yes _ _ B
 
   stands-there : (b : ℕ) → inRange b mostBases ≡ true → standing w b ≡ nodeAt w b
-  stands-there b B = ap (λ (i : ℕ). getD (w .nodes) i noNode) (place-is b B) ∙ (unfold nodeAt in sym (choose-yes (getD (w .nodes) (b - 1) noNode) (emptyNode (w .n) (w .t)) B))
+  stands-there b B = ap (λ (i : ℕ). getD (w .nodes) i noNode) (place-is b B)
+      ∙ (unfold nodeAt in sym (choose-yes (getD (w .nodes) (b - 1) noNode) (emptyNode (w .n) (w .t)) B))
 
   stored-there : (b : ℕ) (v : Node) → inRange b mostBases ≡ true → stored w (placeOf b) v ≡ withNode w b v
   stored-there b v B = ap (λ (i : ℕ). stored w i v) (place-is b B) ∙ (unfold withNode in sym (choose-yes (stored w (b - 1) v) w B))
 
-  event-is : (e : Event) {r : Reached} → inRange (at e) mostBases ≡ true → r ≡ record { refusal = eventRefusal (faultyOf w) (shown w) e; node = reachedNode w e }
+  event-is : (e : Event) {r : Reached}
+      → inRange (at e) mostBases ≡ true → r ≡ record { refusal = eventRefusal (faultyOf w) (shown w) e; node = reachedNode w e }
       → record { refusal = r .refusal; net = stored w (placeOf (at e)) (r .node) } ≡ moved w e
   unfolding moved
-  event-is e B q = rw q (ap (λ (x : Net). record { refusal = eventRefusal (faultyOf w) (shown w) e; net = x }) (stored-there (at e) (reachedNode w e) B ∙ reached-stored w e))
+  event-is e B q = rw q (ap (λ (x : Net). record { refusal = eventRefusal (faultyOf w) (shown w) e; net = x })
+      (stored-there (at e) (reachedNode w e) B ∙ reached-stored w e))
 
   turn-is : (s : List ℕ) (p : ℕ) (x : Line) → EventTold (w .n) s p x
-      → record { refusal = reachedBy s (standing w (senderOf x)) (standing w (receiverOf x)) (faultyOf w) x .refusal; net = stored w (placeOf (receiverOf x)) (reachedBy s (standing w (senderOf x)) (standing w (receiverOf x)) (faultyOf w) x .node) } ≡ happened s w x
+      → record {
+        refusal = reachedBy s (standing w (senderOf x)) (standing w (receiverOf x)) (faultyOf w) x .refusal;
+        net = stored
+            w (placeOf (receiverOf x)) (reachedBy s (standing w (senderOf x)) (standing w (receiverOf x)) (faultyOf w) x .node);
+      }
+      ≡ happened s w x
   unfolding senderOf receiverOf reachedBy happened at
   turn-is s p (Start b next) T =
       let B = in-net b (T .0) in
       let none : 0 ≡ eventRefusal (faultyOf w) (shown w) (starts b outputRoom) = unfold eventRefusal in refl in
-      event-is (starts b outputRoom) B (ap₂ (λ (r : ℕ) (v : Node). record { refusal = r; node = v }) none (rw (stands-there b B) (start-reaches w b)))
+      event-is (starts b outputRoom)
+      B (ap₂ (λ (r : ℕ) (v : Node). record { refusal = r; node = v }) none (rw (stands-there b B) (start-reaches w b)))
   turn-is s p (Carry a b k next) T =
       let t = two-range (w .n) a b (T .0) in
       let A = in-net a (t .0) in
@@ -92,10 +101,14 @@ module _ (w : Net) (few : w .n ≤ mostBases) where
   turn-is s p (Forge a b i count next) T =
       let t = two-range (w .n) a b (T .0) in
       let B = in-net b (t .1 .0) in
-      event-is (forge a b (hexBytes count (drop i s)) outputRoom) B (rw (stands-there b B) (forge-reaches w a b (hexBytes count (drop i s))))
-  turn-is s p Wrong T = ap (λ (l : List Node). record { refusal = 13; net = record { n = w .n; t = w .t; faulty = w .faulty; nodes = l } }) (set-self (w .nodes) (placeOf 0) noNode)
+      event-is (forge a b (hexBytes count (drop i s)) outputRoom)
+      B (rw (stands-there b B) (forge-reaches w a b (hexBytes count (drop i s))))
+  turn-is s p Wrong T = ap (λ (l : List Node). record
+      { refusal = 13; net = record { n = w .n; t = w .t; faulty = w .faulty; nodes = l } }) (set-self (w .nodes) (placeOf 0) noNode)
 
 -- the line that the loop read
-pub turned : (s : List ℕ) (w : Net) (p : ℕ) (x : Line) {i j : ℕ} {r : Reached} → w .n ≤ mostBases → x ≡ eventLine (w .n) s p → j ≡ placeOf (senderOf x) → i ≡ placeOf (receiverOf x)
-    → r ≡ reachedBy s (getD (w .nodes) j noNode) (getD (w .nodes) i noNode) (faultyOf w) x → record { refusal = r .refusal; net = stored w i (r .node) } ≡ happened s w x
+pub turned : (s : List ℕ) (w : Net) (p : ℕ) (x : Line) {i j : ℕ} {r : Reached}
+    → w .n ≤ mostBases → x ≡ eventLine (w .n) s p → j ≡ placeOf (senderOf x) → i ≡ placeOf (receiverOf x)
+    → r ≡ reachedBy s (getD (w .nodes) j noNode) (getD (w .nodes) i noNode) (faultyOf w) x
+    → record { refusal = r .refusal; net = stored w i (r .node) } ≡ happened s w x
 turned s w p x few ex ej ei er = rw (er, ej, ei) (turn-is w few s p x (subst (EventTold (w .n) s p) (sym ex) (event-told (w .n) s p)))

@@ -32,8 +32,8 @@ fn play_whole(schedule: &[u8]) -> Play
     play_history(schedule, play_header(schedule))
 }
 
-// The report of a schedule at the front of an output, and its length. An output with less room than any report may take is left alone, and the
-// length is 0.
+// The report of a schedule at the front of an output, and its length. An output with less room than any report may take is left
+// alone, and the length is 0.
 pub fn replay(schedule: &[u8], out: &mut [u8]) -> usize
     ensures { λ r. ⌜ r ≡ replayLength (now (schedule .entry)) (now (out .entry)) ⌝ }
     ensures { λ r. ⌜ now (out .exit) ≡ replayOutput (now (schedule .entry)) (now (out .entry)) ⌝ }

@@ -20,7 +20,8 @@ use Rattle.schedule.specs.Report.{listText, baseLine, baseLines, lineRoom, line
 list-append : (l m : List ℕ) → listText (l ++ m) ≡ listText l ++ listText m
 unfolding listText
 list-append [] m = refl
-list-append (v ∷ l) m = ap (λ (t : List ℕ). (space ∷ decimalText v) ++ t) (list-append l m) ∙ sym (append-assoc (space ∷ decimalText v) (listText l) (listText m))
+list-append (v ∷ l) m = ap (λ (t : List ℕ). (space ∷ decimalText v) ++ t) (list-append l m)
+    ∙ sym (append-assoc (space ∷ decimalText v) (listText l) (listText m))
 
 pub list-none : (l : List ℕ) → listText (take 0 l) ≡ []
 unfolding listText
@@ -47,7 +48,8 @@ pub line-put : {out : List ℕ} {at : ℕ} {text after : List ℕ} {end : ℕ} �
 unfolding lineEnd lineOutput
 line-put e p = (p .past ∙ sym (choose-yes _ _ e), p .is ∙ sym (choose-yes _ _ e))
 
-pub line-not-put : (out : List ℕ) (at : ℕ) (text : List ℕ) → leb (at + lineRoom) (length out) ≡ false → (at ≡ lineEnd out at text) × (out ≡ lineOutput out at text)
+pub line-not-put : (out : List ℕ) (at : ℕ) (text : List ℕ)
+    → leb (at + lineRoom) (length out) ≡ false → (at ≡ lineEnd out at text) × (out ≡ lineOutput out at text)
 unfolding lineEnd lineOutput
 line-not-put out at text e = (sym (choose-no _ _ e), sym (choose-no _ _ e))
 
@@ -60,9 +62,11 @@ take-least n k m l e h = cases (leb n m) refl
     cases false q = take-all k l (omega (arith, leb-false n m q)) ∙ sym (take-all n l (omega (arith, leb-false n m q)))
 
 -- where there is room, the line is put
-pub line-there : {out : List ℕ} {at : ℕ} {text after : List ℕ} {end : ℕ} → at + lineRoom ≤ length out → end ≡ lineEnd out at text → after ≡ lineOutput out at text → Put out at text after end
+pub line-there : {out : List ℕ} {at : ℕ} {text after : List ℕ} {end : ℕ}
+    → at + lineRoom ≤ length out → end ≡ lineEnd out at text → after ≡ lineOutput out at text → Put out at text after end
 unfolding lineEnd lineOutput
-line-there {out} {at} room e o = let f = le-leb (at + lineRoom) (length out) room in record { past = e ∙ choose-yes _ _ f; is = o ∙ choose-yes _ _ f }
+line-there {out} {at} room e o = let f = le-leb (at + lineRoom) (length out) room in
+    record { past = e ∙ choose-yes _ _ f; is = o ∙ choose-yes _ _ f }
 
 -- one base more
 pub bases-none : (W : Net) → baseLines 0 W ≡ []

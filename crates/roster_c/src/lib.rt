@@ -30,7 +30,9 @@ pub extern "C" fn roster_idle(n: usize, t: usize, own: u32) -> Made
 // Starts an idle base. Turned down by 1 to 4 and 6.
 #[no_mangle]
 pub extern "C" fn roster_start(base: &mut Base, out: &mut [u8]) -> CallAnswer
-    ensures { λ r. ⌜ (r ≡ outcomeNumbers (stepOf (start (now (base .entry)) (length (now (out .entry)))) .outcome)) × ((now (base .exit) ≡ stepOf (start (now (base .entry)) (length (now (out .entry)))) .base) × (now (out .exit) ≡ outputOf (start (now (base .entry)) (length (now (out .entry)))) (now (out .entry)))) ⌝ }
+    ensures { λ r. ⌜ (r ≡ outcomeNumbers (stepOf (start (now (base .entry)) (length (now (out .entry)))) .outcome))
+        × ((now (base .exit) ≡ stepOf (start (now (base .entry)) (length (now (out .entry)))) .base)
+        × (now (out .exit) ≡ outputOf (start (now (base .entry)) (length (now (out .entry)))) (now (out .entry)))) ⌝ }
 {
     outcome_numbers(lent_calls::start(base, out))
 }
@@ -43,7 +45,11 @@ pub extern "C" fn roster_arrive(
     burst: &[u8],
     out: &mut [u8],
 ) -> CallAnswer
-    ensures { λ r. ⌜ (r ≡ outcomeNumbers (stepOf (arrival (now (base .entry)) link (now (burst .entry)) (length (now (out .entry)))) .outcome)) × ((now (base .exit) ≡ stepOf (arrival (now (base .entry)) link (now (burst .entry)) (length (now (out .entry)))) .base) × (now (out .exit) ≡ outputOf (arrival (now (base .entry)) link (now (burst .entry)) (length (now (out .entry)))) (now (out .entry)))) ⌝ }
+    ensures { λ r.
+        ⌜ (r ≡ outcomeNumbers (stepOf (arrival (now (base .entry)) link (now (burst .entry)) (length (now (out .entry)))) .outcome))
+        × ((now (base .exit) ≡ stepOf (arrival (now (base .entry)) link (now (burst .entry)) (length (now (out .entry)))) .base)
+        × (now (out .exit)
+        ≡ outputOf (arrival (now (base .entry)) link (now (burst .entry)) (length (now (out .entry)))) (now (out .entry)))) ⌝ }
 {
     outcome_numbers(lent_calls::arrive(base, link, burst, out))
 }
@@ -67,7 +73,8 @@ pub extern "C" fn roster_read(n: usize, burst: &[u8]) -> ReadAnswer
 // The frame of a message. Turned down by 1, 6, 8, 9, 11 and 12.
 #[no_mangle]
 pub extern "C" fn roster_write(n: usize, kind: u8, ids: &[u32], out: &mut [u8]) -> WriteAnswer
-    ensures { λ r. ⌜ (r ≡ writtenNumbers (writtenOf n kind (now (ids .entry)) (length (now (out .entry))))) × (now (out .exit) ≡ writeOutput n kind (now (ids .entry)) (now (out .entry))) ⌝ }
+    ensures { λ r. ⌜ (r ≡ writtenNumbers (writtenOf n kind (now (ids .entry)) (length (now (out .entry)))))
+        × (now (out .exit) ≡ writeOutput n kind (now (ids .entry)) (now (out .entry))) ⌝ }
 {
     written_numbers(writer::write(n, kind, ids, out))
 }
@@ -75,7 +82,8 @@ pub extern "C" fn roster_write(n: usize, kind: u8, ids: &[u32], out: &mut [u8]) 
 // The report of a schedule. An output with less room than any report may take is left alone, and the length is 0.
 #[no_mangle]
 pub extern "C" fn roster_replay(schedule: &[u8], out: &mut [u8]) -> usize
-    ensures { λ r. ⌜ (r ≡ replayLength (now (schedule .entry)) (now (out .entry))) × (now (out .exit) ≡ replayOutput (now (schedule .entry)) (now (out .entry))) ⌝ }
+    ensures { λ r. ⌜ (r ≡ replayLength (now (schedule .entry)) (now (out .entry)))
+        × (now (out .exit) ≡ replayOutput (now (schedule .entry)) (now (out .entry))) ⌝ }
 {
     replay::replay(schedule, out)
 }

@@ -1,5 +1,5 @@
--- What a schedule means (document 01, "The replay program"): its lines one after another, from the net at the beginning to the net at the end, or to the first
--- line that is turned down.
+-- What a schedule means (document 01, "The replay program"): its lines one after another, from the net at the beginning to the net
+-- at the end, or to the first line that is turned down.
 use Prim.Native.Nat.{ℕ, zero, suc, _+_}
 use mathlib.Core.Bool.{not}
 use mathlib.Core.List.{List, [], _∷_, _++_}
@@ -47,7 +47,8 @@ unfoldable pub onward : ℕ → Story → Story
 onward p st = record { at = p; line = st .line + 1; refusal = st .refusal; n = st .n; t = st .t; faulty = st .faulty; net = st .net }
 
 unfoldable pub withSize : ℕ → ℕ → Story → Story
-withSize n t st = record { at = st .at; line = st .line; refusal = st .refusal; n = n; t = t; faulty = st .faulty; net = idleNet n t (λ b. 0) }
+withSize n t st =
+    record { at = st .at; line = st .line; refusal = st .refusal; n = n; t = t; faulty = st .faulty; net = idleNet n t (λ b. 0) }
 
 unfoldable pub withId : ℕ → ℕ → Story → Story
 withId b v st = record {
@@ -95,7 +96,8 @@ netStep s st = afterTwo (netLine s (st .at)) (refuse 13 st) (λ n t next. judged
 -- ---- "then `id b v` for b = 1 to n"
 -- 13, then 3 and 14
 unfoldable pub idStep : List ℕ → ℕ → Story → Story
-idStep s b st = unlessRefused st (afterNumber (idLine b s (st .at)) (refuse 13 st) (λ v next. judged (idRefusal (st .net) v) st (withId b v (onward next st))))
+idStep s b st = unlessRefused
+    st (afterNumber (idLine b s (st .at)) (refuse 13 st) (λ v next. judged (idRefusal (st .net) v) st (withId b v (onward next st))))
 
 unfoldable pub idSteps : List ℕ → ℕ → Story → Story
 idSteps s zero st = st

@@ -1,5 +1,5 @@
--- What the report of a schedule says, by agreement (demand 3): for every schedule that is not refused, the printed final lists are the true identifiers sorted,
--- one leader is printed, and `waiting 0` with no idle base leaves none running.
+-- What the report of a schedule says, by agreement (demand 3): for every schedule that is not refused, the printed final lists are
+-- the true identifiers sorted, one leader is printed, and `waiting 0` with no idle base leaves none running.
 use Prim.Native.Nat.{ℕ, _≤_}
 use mathlib.Core.Path.{_≡_}
 use mathlib.Core.List.{List, _++_}
@@ -35,10 +35,12 @@ pub record Reported (s : List ℕ) : Type 0 where
   -- the bases of the report are those of the header
   pub bases : meaning s .n ≡ header s .n
   -- every base prints its state, and one that has stopped prints the roster that all others print
-  pub text : (b : ℕ) → BaseOf (meaning s .n) b → stateText (meaning s .net .base b) ≡ agreedText (meaning s .net .base b .state) (givenIds s)
+  pub text : (b : ℕ) → BaseOf (meaning s .n) b
+      → stateText (meaning s .net .base b) ≡ agreedText (meaning s .net .base b .state) (givenIds s)
   pub states : (b : ℕ) → BaseOf (meaning s .n) b → meaning s .net .base b .state ≤ 3
   -- `waiting 0`, and no base idle: every base has stopped
-  pub ends : waiting (meaning s .n) (meaning s .faulty) (meaning s .net) ≡ 0 → ((b : ℕ) → BaseOf (meaning s .n) b → 1 ≤ meaning s .net .base b .state)
+  pub ends : waiting (meaning s .n) (meaning s .faulty) (meaning s .net) ≡ 0
+      → ((b : ℕ) → BaseOf (meaning s .n) b → 1 ≤ meaning s .net .base b .state)
       → (b : ℕ) → BaseOf (meaning s .n) b → 2 ≤ meaning s .net .base b .state
 
 -- the statement; Theorem/Proof proves it

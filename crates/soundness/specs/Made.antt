@@ -7,4 +7,5 @@ use Rattle.soundness.specs.declared.idle.Made.{Made}
 
 -- where it is turned down, the record is that of no base: all zero
 unfoldable pub madeOf : ℕ → ℕ → ℕ → Made
-madeOf n t own = record { refusal = settingRefusal n t own; base = choose (eqb (settingRefusal n t own) 0) (idleBase n t own) (idleBase 0 0 0) }
+madeOf n t own =
+    record { refusal = settingRefusal n t own; base = choose (eqb (settingRefusal n t own) 0) (idleBase n t own) (idleBase 0 0 0) }

@@ -30,6 +30,8 @@ pub sum-grows : (f : ℕ → ℕ) (j start total term : ℕ) → total ≡ start
 sum-grows f j start total term e t = omega (arith, sum-next j f)
 
 -- the place i adds its own pair, a term, and its pairs with the j places before it
-pub pairs-grow : (f : ℕ → ℕ → ℕ) (g : ℕ → ℕ) (i j start term total : ℕ) → start ≡ sum i (λ m. sum m (λ k. f m k)) + sum i g → term ≡ g i → total ≡ start + term + sum j (λ k. f i k) → j ≡ i
+pub pairs-grow : (f : ℕ → ℕ → ℕ) (g : ℕ → ℕ) (i j start term total : ℕ)
+    → start ≡ sum i (λ m. sum m (λ k. f m k)) + sum i g → term ≡ g i → total ≡ start + term + sum j (λ k. f i k) → j ≡ i
     → total ≡ sum (i + 1) (λ m. sum m (λ k. f m k)) + sum (i + 1) g
-pairs-grow f g i j start term total s t e q = omega (arith, sum-next i (λ m. sum m (λ k. f m k)), sum-next i g, ap (λ (n : ℕ). sum n (λ k. f i k)) q)
+pairs-grow f g i j start term total s t e q =
+    omega (arith, sum-next i (λ m. sum m (λ k. f m k)), sum-next i g, ap (λ (n : ℕ). sum n (λ k. f i k)) q)

@@ -1,4 +1,5 @@
--- The sum of the certified identifiers' tallies, link by link: each link is read once, and each certified identifier counts once for being certified.
+-- The sum of the certified identifiers' tallies, link by link: each link is read once, and each certified identifier counts once
+-- for being certified.
 use Prim.Native.Nat.{ℕ, suc, _+_, _-_, _<_, _≤_}
 use mathlib.Core.Path.{_≡_, refl, sym, ap, _∙_}
 use mathlib.Core.Bool.{true}
@@ -26,7 +27,8 @@ pub sum-end : (ids : List ℕ) (count : ℕ) (f : ℕ → ℕ) → sumOver (drop
 unfolding sumOver
 sum-end ids count f = rw (drop-of-length-le (take count ids) {i = count} (omega (arith, length-take count ids)))
 
-pub sum-back : (ids : List ℕ) (count j total term : ℕ) (f : ℕ → ℕ) → 0 < j → j ≤ count → count ≤ length ids → total ≡ sumOver (drop j (take count ids)) f → term ≡ f (getD ids (j - 1) 0)
+pub sum-back : (ids : List ℕ) (count j total term : ℕ) (f : ℕ → ℕ)
+    → 0 < j → j ≤ count → count ≤ length ids → total ≡ sumOver (drop j (take count ids)) f → term ≡ f (getD ids (j - 1) 0)
     → total + term ≡ sumOver (drop (j - 1) (take count ids)) f
 sum-back ids count j total term f h most room e t =
     let l = take count ids in
@@ -38,15 +40,19 @@ sum-back ids count j total term f h most room e t =
 pub sum-over-swap : (l : List ℕ) (k : ℕ) (f : ℕ → ℕ → ℕ) → sumOver l (λ g. sum k (λ i. f g i)) ≡ sum k (λ i. sumOver l (λ g. f g i))
 unfolding sumOver
 sum-over-swap [] k f = sym (sum-zeros k)
-sum-over-swap (x ∷ l) k f = ap (λ (s : ℕ). sum k (λ i. f x i) + s) (sum-over-swap l k f) ∙ sym (sum-add k (λ i. f x i) (λ i. sumOver l (λ g. f g i)))
+sum-over-swap (x ∷ l) k f = ap (λ (s : ℕ). sum k (λ i. f x i) + s) (sum-over-swap l k f)
+    ∙ sym (sum-add k (λ i. f x i) (λ i. sumOver l (λ g. f g i)))
 
 -- one for each member of a list that all of them are members of
-sum-with-members : (all l : List ℕ) (f : ℕ → ℕ) → ((i : ℕ) → i < length l → member (getD l i 0) all ≡ true) → sumOver l (λ g. f g + bit (member g all)) ≡ length l + sumOver l f
+sum-with-members : (all l : List ℕ) (f : ℕ → ℕ)
+    → ((i : ℕ) → i < length l → member (getD l i 0) all ≡ true) → sumOver l (λ g. f g + bit (member g all)) ≡ length l + sumOver l f
 unfolding sumOver
 sum-with-members all [] f h = refl
-sum-with-members all (x ∷ l) f h = let r = sum-with-members all l f (λ i p. h (suc i) (omega arith)) in omega (arith, r, bit-yes (h 0 (omega arith)))
+sum-with-members all (x ∷ l) f h = let r = sum-with-members all l f (λ i p. h (suc i) (omega arith)) in
+    omega (arith, r, bit-yes (h 0 (omega arith)))
 
-pub tally-by-links : (b : Base) → tallySum b ≡ length (certified b) + sum (linkCount b) (λ i. sumOver (certified b) (λ g. bit (holdsVerify (linkAt b i) g)))
+pub tally-by-links : (b : Base)
+    → tallySum b ≡ length (certified b) + sum (linkCount b) (λ i. sumOver (certified b) (λ g. bit (holdsVerify (linkAt b i) g)))
 unfolding tallySum tally links
 tally-by-links b =
     sum-with-members (certified b) (certified b) (λ g. sum (linkCount b) (λ i. bit (holdsVerify (linkAt b i) g))) (member-at (certified b))

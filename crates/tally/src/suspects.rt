@@ -35,7 +35,8 @@ fn suspect_own(own: u32, link: Link) -> bool
     false
 }
 
-// Each link is read once for its pair with the own identifier, of which only the other's link is looked at, and for its pairs with the links before it.
+// Each link is read once for its pair with the own identifier, of which only the other's link is looked at, and for its pairs with
+// the links before it.
 pub fn suspect_count(base: Base) -> usize
     ensures { λ r. ⌜ r ≡ suspects base ⌝ }
 {

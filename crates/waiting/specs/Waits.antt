@@ -12,4 +12,5 @@ use Rattle.node.specs.Node.{logOf, heardBy}
 pub mod Laws
 
 unfoldable pub waitingBetween : Node → Node → List Pair → ℕ → ℕ → ℕ
-waitingBetween v u faulty a b = choose (or (eqb a b) (not (good faulty a b))) 0 (sum (length (logOf v)) (λ i. bit (not (heardBy u a (suc i)))))
+waitingBetween v u faulty a b =
+    choose (or (eqb a b) (not (good faulty a b))) 0 (sum (length (logOf v)) (λ i. bit (not (heardBy u a (suc i)))))

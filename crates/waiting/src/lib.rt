@@ -43,7 +43,8 @@ fn size_of(n: u8) -> usize
 // Broadcasts of the base at place a that wait.
 fn waiting_from(net: Net, a: usize) -> usize
     requires { ⌜ a < mostBases ⌝ }
-    ensures { λ r. ⌜ (r ≡ sum (size net) (λ b. waitingFrom (faultyOf net) (shown net) (suc a) (suc b))) × (r ≤ mostBases * mostBroadcasts) ⌝ }
+    ensures { λ r.
+        ⌜ (r ≡ sum (size net) (λ b. waitingFrom (faultyOf net) (shown net) (suc a) (suc b))) × (r ≤ mostBases * mostBroadcasts) ⌝ }
 {
     let n = size_of(net.n);
     let sender = net.nodes[a];

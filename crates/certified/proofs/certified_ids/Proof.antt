@@ -53,16 +53,20 @@ loop-less c = omega arith
 
 loop-again : tie.Need-loop-again Inv-loop μ-loop
 unfolding linkAt
-loop-again c = let b = c .before .before .before .before .before .before .args .t1 in let l = c .before .before .before .before .loop in
-    (gather-taken b (l .ids) (l .count) (l .i) (omega arith) (l .inv .0) (sym (c .before .has-announce .ensures) ∙ c .if1 .taken), omega arith)
+loop-again c = let b = c .before .before .before .before .before .before .args .t1 in let l = c .before .before .before .before .loop in (
+  gather-taken b (l .ids) (l .count) (l .i) (omega arith) (l .inv .0) (sym (c .before .has-announce .ensures) ∙ c .if1 .taken),
+  omega arith,
+)
 
 loop-less-2 : tie.Need-loop-less-2 Inv-loop μ-loop
 loop-less-2 c = omega arith
 
 loop-again-2 : tie.Need-loop-again-2 Inv-loop μ-loop
 unfolding linkAt
-loop-again-2 c = let b = c .before .before .before .before .before .before .args .t1 in let l = c .before .before .before .before .loop in
-    (gather-left b (l .ids) (l .count) (l .i) (omega arith) (l .inv .0) (sym (c .before .has-announce .ensures) ∙ c .if1 .left), omega arith)
+loop-again-2 c = let b = c .before .before .before .before .before .before .args .t1 in let l = c .before .before .before .before .loop in (
+  gather-left b (l .ids) (l .count) (l .i) (omega arith) (l .inv .0) (sym (c .before .has-announce .ensures) ∙ c .if1 .left),
+  omega arith,
+)
 
 returns : tie.Need-returns Inv-loop μ-loop
 returns c = let b = c .before .before .before .args .t1 in let l = c .before .loop in let e : l .i ≡ 0 = omega arith in

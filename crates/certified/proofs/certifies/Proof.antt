@@ -14,7 +14,8 @@ holds-requires : tie.Need-holds-requires
 holds-requires c κs = search needs
 
 returns : tie.Need-returns
-returns c = let a = c .before .before .before .before .before .args in c .holds .ensures ∙ ap (member (a .g)) (listed (certified (a .base)) _ (c .before .before .before .before .certified-ids .ensures))
+returns c = let a = c .before .before .before .before .before .args in
+    c .holds .ensures ∙ ap (member (a .g)) (listed (certified (a .base)) _ (c .before .before .before .before .certified-ids .ensures))
 
 pub certifies-spec : {M : Type 1} → statement M
 certifies-spec = tie.close (tie.spec certified-ids-requires holds-requires returns)

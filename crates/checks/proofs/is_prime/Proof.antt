@@ -1,4 +1,5 @@
--- `checks::is_prime` meets its contract: the three conditions stand in the order of the definition. As many as n are certified, so n is at most 16 where it is squared.
+-- `checks::is_prime` meets its contract: the three conditions stand in the order of the definition. As many as n are certified, so
+-- n is at most 16 where it is squared.
 use Prim.Native.Nat.{ℕ, _+_, _*_, _≤_}
 use mathlib.Core.Path.{sym, ap, _∙_}
 use native.Mathlib.Omega.{arith}
@@ -38,12 +39,14 @@ add-if2 c = search needs
 
 mul-if2-2 : tie.Need-mul-if2-2
 mul-if2-2 c = let b = c .before .before .before .before .before .args .base in
-    let small : b .n ≤ 16 = omega (arith, c .before .before .certified-count .ensures .1, c .before .if1 .left) in omega (arith, mul-le-mul-right (b .n) small)
+    let small : b .n ≤ 16 = omega (arith, c .before .before .certified-count .ensures .1, c .before .if1 .left) in
+    omega (arith, mul-le-mul-right (b .n) small)
 
 returns-2 : tie.Need-returns-2
 unfolding primeHolds
 returns-2 c = let b = c .before .before .before .before .before .before .args .base in
-    and-goes-on (eq-eqb (length (certified b)) (b .n) (sym (c .before .before .before .certified-count .ensures .0) ∙ c .before .before .if1 .left))
+    and-goes-on (eq-eqb (length (certified b))
+    (b .n) (sym (c .before .before .before .certified-count .ensures .0) ∙ c .before .before .if1 .left))
     (and-fails _ (lt-leb (b .n * b .n) (tallySum b + 2 * b .t) (omega (arith, c .before .tally-sum .ensures .0))))
 
 suspect-count-requires : tie.Need-suspect-count-requires
@@ -52,7 +55,8 @@ suspect-count-requires c κs = search needs
 returns-3 : tie.Need-returns-3
 unfolding primeHolds
 returns-3 c = let b = c .before .before .before .before .before .before .before .args .base in
-    and-goes-on (eq-eqb (length (certified b)) (b .n) (sym (c .before .before .before .before .certified-count .ensures .0) ∙ c .before .before .before .if1 .left))
+    and-goes-on (eq-eqb (length (certified b))
+    (b .n) (sym (c .before .before .before .before .certified-count .ensures .0) ∙ c .before .before .before .if1 .left))
     (and-goes-on (le-leb (b .n * b .n) (tallySum b + 2 * b .t) (omega (arith, c .before .before .tally-sum .ensures .0)))
     (ap (λ (k : ℕ). leb k (b .t)) (c .suspect-count .ensures)))
 

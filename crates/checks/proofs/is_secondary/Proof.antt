@@ -24,7 +24,8 @@ add-if1 c = search needs
 returns : tie.Need-returns
 unfolding secondaryHolds
 returns c = let a = c .before .before .before .args in
-    and-fails _ (lt-leb (a .base .t + 1) (listTally (a .base) (take (a .base .n) (a .v))) (omega (arith, c .before .list-tally .ensures .0)))
+    and-fails _
+    (lt-leb (a .base .t + 1) (listTally (a .base) (take (a .base .n) (a .v))) (omega (arith, c .before .list-tally .ensures .0)))
 
 correct-count-requires : tie.Need-correct-count-requires
 correct-count-requires c κs = search needs
@@ -32,7 +33,8 @@ correct-count-requires c κs = search needs
 returns-2 : tie.Need-returns-2
 unfolding secondaryHolds
 returns-2 c = let a = c .before .before .before .before .args in
-    and-goes-on (le-leb (a .base .t + 1) (listTally (a .base) (take (a .base .n) (a .v))) (omega (arith, c .before .before .list-tally .ensures .0)))
+    and-goes-on (le-leb (a .base .t + 1)
+    (listTally (a .base) (take (a .base .n) (a .v))) (omega (arith, c .before .before .list-tally .ensures .0)))
     (ap (λ (k : ℕ). leb 2 k) (c .correct-count .ensures .0))
 
 pub is-secondary-spec : {M : Type 1} → statement M

@@ -27,17 +27,20 @@ use Rattle.soundness.specs.Place.{placeRefusal}
 use Rattle.engine.specs.Parts.{Ready, Burst, messageIn}
 
 -- ---- numbers 1 to 6, then 7 to 12
-arrival-number : (b : Base) (link : ℕ) (s : List ℕ) (room : ℕ) → arrivalRefusal b link s room ≡ first (placeRefusal b link room) (burstRefusal (b .n) s)
+arrival-number : (b : Base) (link : ℕ) (s : List ℕ) (room : ℕ)
+    → arrivalRefusal b link s room ≡ first (placeRefusal b link room) (burstRefusal (b .n) s)
 unfolding arrivalRefusal placeRefusal
 arrival-number b link s room =
     ap (first (recordRefusal b)) (first-assoc (linkRefusal (b .n) link) (outputRefusal room) (burstRefusal (b .n) s))
     ∙ first-assoc (recordRefusal b) (first (linkRefusal (b .n) link) (outputRefusal room)) (burstRefusal (b .n) s)
 
-turned-down : (b : Base) (link : ℕ) (s : List ℕ) (room r : ℕ) → arrivalRefusal b link s room ≡ r → r ≢ 0 → arrival b link s room ≡ refuses b r
+turned-down : (b : Base) (link : ℕ) (s : List ℕ) (room r : ℕ)
+    → arrivalRefusal b link s room ≡ r → r ≢ 0 → arrival b link s room ≡ refuses b r
 unfolding arrival
 turned-down b link s room r e h = unless-refused b _ (λ z. h (sym e ∙ z)) ∙ ap (refuses b) e
 
-pub place-down : (b : Base) (link : ℕ) (s : List ℕ) (room r : ℕ) → r ≡ placeRefusal b link room → r ≢ 0 → arrival b link s room ≡ refuses b r
+pub place-down : (b : Base) (link : ℕ) (s : List ℕ) (room r : ℕ)
+    → r ≡ placeRefusal b link room → r ≢ 0 → arrival b link s room ≡ refuses b r
 place-down b link s room r e h = turned-down b link s room r (arrival-number b link s room ∙ first-given _ (λ z. h (e ∙ z)) ∙ sym e) h
 
 -- ---- what numbers 1 to 6 leave
@@ -98,4 +101,5 @@ module _ (b : Base) (link : ℕ) (s : List ℕ) (room : ℕ) (e : placeRefusal b
 
       pub arrives : arrival b link s room ≡ arrivalStep b (link - 1) (messageIn (b .n) kind ids)
       unfolding arrival messageIn messageOf
-      arrives = unless-passed b _ (sym burst-number ∙ read) ∙ ap (arrivalStep b (link - 1)) (ap (message (kindByte s)) (sym front) ∙ ap (λ (k : ℕ). message k (take (expected kind (b .n)) ids)) (sym same-kind))
+      arrives = unless-passed b _ (sym burst-number ∙ read) ∙ ap (arrivalStep b (link - 1))
+          (ap (message (kindByte s)) (sym front) ∙ ap (λ (k : ℕ). message k (take (expected kind (b .n)) ids)) (sym same-kind))

@@ -13,7 +13,22 @@ use Rattle.protocol.specs.declared.Base.{Base}
 use Rattle.protocol.specs.declared.Step.{Step}
 use Rattle.protocol.specs.declared.Outcome.{Outcome}
 use Rattle.protocol.specs.declared.Outcome.the-variants.{Accepted, Discarded}
-use Rattle.protocol.specs.Steps.{Answer, accepted, discarded, refused, Done, accepts, withState, begins, onMessage, encodeAll, lengths, outcomeOf, stepOf, outputOf}
+use Rattle.protocol.specs.Steps.{
+  Answer,
+  accepted,
+  discarded,
+  refused,
+  Done,
+  accepts,
+  withState,
+  begins,
+  onMessage,
+  encodeAll,
+  lengths,
+  outcomeOf,
+  stepOf,
+  outputOf,
+}
 use Rattle.protocol.specs.Record.Memory.{Sized}
 use Rattle.protocol.specs.Sound.{idle}
 use Rattle.protocol.specs.Sound.Laws.{record-passed}
@@ -33,7 +48,8 @@ module _ (b next : Base) (i kind : ℕ) (ids : List ℕ) (e : next ≡ begun b) 
   unfolding withState
   begun-asks room S R off B h =
       let small = idle-first b S (R .refusal) off i (R .here) (messageIn (b .n) kind ids) .brief .small in
-      subst (λ (x : Base). Place x i × (Burst (x .n) kind ids × (length (encodeAll (onMessage x i (messageIn (x .n) kind ids) .says)) ≤ room))) (sym e)
+      subst (λ (x : Base). Place x i
+      × (Burst (x .n) kind ids × (length (encodeAll (onMessage x i (messageIn (x .n) kind ids) .says)) ≤ room))) (sym e)
       (record { net = record-passed b (R .refusal) .net; here = R .here }, (B, omega arith))
 
 -- ---- the answer
@@ -45,16 +61,19 @@ verify-long : (own : ℕ) → frameBytes 1 ≡ length (encode (verify own))
 unfolding encode kindOf idsOf
 verify-long own = sym (length-frame 2 (own ∷ []))
 
-behind-outcome : (a : Answer) (own : ℕ) (says : List Message) → behindStart (outcomeOf a says) ≡ outcomeOf a (announce own ∷ (verify own ∷ says))
+behind-outcome : (a : Answer) (own : ℕ) (says : List Message)
+    → behindStart (outcomeOf a says) ≡ outcomeOf a (announce own ∷ (verify own ∷ says))
 unfolding behindStart outcomeOf lengths
 behind-outcome accepted own says = λ i. Accepted (announce-long own i) (verify-long own i) (getD (lengths says) 0 0)
 behind-outcome discarded own says = λ i. Discarded (announce-long own i) (verify-long own i) (getD (lengths says) 0 0)
 behind-outcome (refused r) own says = refl
 
-pub behind-step : (b : Base) (d : Done) (answer : Outcome) (r : Step) → r ≡ stepOf d → answer ≡ behindStart (r .outcome) → _≡_ {A = Step} (record { outcome = answer; base = r .base }) (stepOf (afterStart b d))
+pub behind-step : (b : Base) (d : Done) (answer : Outcome) (r : Step) → r ≡ stepOf d
+    → answer ≡ behindStart (r .outcome) → _≡_ {A = Step} (record { outcome = answer; base = r .base }) (stepOf (afterStart b d))
 unfolding stepOf afterStart
 behind-step b d answer r p q =
-    let e : answer ≡ outcomeOf (d .answer) (announce (b .own) ∷ (verify (b .own) ∷ d .says)) = q ∙ ap (λ (x : Step). behindStart (x .outcome)) p ∙ behind-outcome (d .answer) (b .own) (d .says) in
+    let e : answer ≡ outcomeOf (d .answer) (announce (b .own) ∷ (verify (b .own) ∷ d .says)) = q
+    ∙ ap (λ (x : Step). behindStart (x .outcome)) p ∙ behind-outcome (d .answer) (b .own) (d .says) in
     λ i. record { outcome = e i; base = p i .base }
 
 -- ---- the output
@@ -63,6 +82,8 @@ unfolding encodeAll
 encode-append [] b = refl
 encode-append (m ∷ a) b = ap (λ (f : List ℕ). encode m ++ f) (encode-append a b) ∙ sym (append-assoc (encode m) (encodeAll a) (encodeAll b))
 
-pub behind-output : (b : Base) (d : Done) (output after : List ℕ) → after ≡ over (encodeAll (begins b .says) ++ encodeAll (d .says)) output → after ≡ outputOf (afterStart b d) output
+pub behind-output : (b : Base) (d : Done) (output after : List ℕ)
+    → after ≡ over (encodeAll (begins b .says) ++ encodeAll (d .says)) output → after ≡ outputOf (afterStart b d) output
 unfolding outputOf afterStart begins accepts
-behind-output b d output after p = p ∙ ap (λ (f : List ℕ). over f output) (sym (encode-append (announce (b .own) ∷ (verify (b .own) ∷ [])) (d .says)))
+behind-output b d output after p = p
+    ∙ ap (λ (f : List ℕ). over f output) (sym (encode-append (announce (b .own) ∷ (verify (b .own) ∷ [])) (d .says)))

@@ -45,7 +45,8 @@ module _ (b : Base) (i n : ℕ) (ids : List ℕ) where
 
 pub four-kinds : (kind : ℕ) → known kind ≡ true → kind ≢ 1 → kind ≢ 2 → kind ≢ 3 → kind ≢ 4 → ⊥
 unfolding known holdsOne holdsAll
-four-kinds kind e a b c d = clash e (or-neither (or-neither (ne-eqb kind 1 a) (ne-eqb kind 2 b)) (or-neither (ne-eqb kind 3 c) (ne-eqb kind 4 d)))
+four-kinds kind e a b c d =
+    clash e (or-neither (or-neither (ne-eqb kind 1 a) (ne-eqb kind 2 b)) (or-neither (ne-eqb kind 3 c) (ne-eqb kind 4 d)))
 
 -- kinds 3 and 4: the array holds n identifiers
 pub correct-holds : {n kind : ℕ} (ids : List ℕ) → kind ≡ 3 → Burst n kind ids → Holds n ids
@@ -62,12 +63,15 @@ Few most m = length (idsOf m) ≤ most
 
 message-ids : (kind : ℕ) (ids : List ℕ) (most : ℕ) → 1 ≤ most → length ids ≤ most → Few most (message kind ids)
 unfolding message idsOf
-message-ids kind ids most some h = choose-ind (Few most) (eqb kind 1) (λ _. some) (λ _. choose-ind (Few most) (eqb kind 2) (λ _. some) (λ _. choose-ind (Few most) (eqb kind 3) (λ _. h) (λ _. h)))
+message-ids kind ids most some h = choose-ind (Few most) (eqb kind 1)
+    (λ _. some) (λ _. choose-ind (Few most) (eqb kind 2) (λ _. some) (λ _. choose-ind (Few most) (eqb kind 3) (λ _. h) (λ _. h)))
 
-pub message-room : (b : Base) (i kind : ℕ) (ids : List ℕ) → NetSize (b .n) → length (encodeAll (onMessage b i (messageIn (b .n) kind ids) .says)) ≤ outputRoom
+pub message-room : (b : Base) (i kind : ℕ) (ids : List ℕ)
+    → NetSize (b .n) → length (encodeAll (onMessage b i (messageIn (b .n) kind ids) .says)) ≤ outputRoom
 unfolding messageIn
 message-room b i kind ids N =
-    let few : length (idsOf (messageIn (b .n) kind ids)) ≤ mostBases = message-ids kind (take (expected kind (b .n)) ids) mostBases (omega arith)
+    let few : length (idsOf (messageIn (b .n) kind ids)) ≤ mostBases = message-ids
+    kind (take (expected kind (b .n)) ids) mostBases (omega arith)
     (omega (arith, length-take (expected kind (b .n)) ids, expected-range kind (b .n) mostBases (omega (arith, N .least)) (N .most) .1)) in
     omega (arith, message-brief b i (messageIn (b .n) kind ids) (N .most) few .small, said-fits (messageIn (b .n) kind ids) few)
 

@@ -18,7 +18,36 @@ use Rattle.protocol.specs.declared.Base.{Base}
 use Rattle.protocol.specs.declared.Step.{Step}
 use Rattle.protocol.specs.declared.Outcome.the-variants.{Accepted}
 use Rattle.protocol.specs.Record.{certified, linkAt}
-use Rattle.protocol.specs.Steps.{Done, refuses, discards, accepts, primeHolds, secondaryHolds, stops, primeCheck, secondaryCheck, withLink, withSent, withState, withFinal, withAnnounce, withVerify, withVector, onAnnounce, onVerify, votes, vote, onCorrectFinal, onVerifyFinal, encodeAll, lengths, outcomeOf, stepOf, outputOf, begins}
+use Rattle.protocol.specs.Steps.{
+  Done,
+  refuses,
+  discards,
+  accepts,
+  primeHolds,
+  secondaryHolds,
+  stops,
+  primeCheck,
+  secondaryCheck,
+  withLink,
+  withSent,
+  withState,
+  withFinal,
+  withAnnounce,
+  withVerify,
+  withVector,
+  onAnnounce,
+  onVerify,
+  votes,
+  vote,
+  onCorrectFinal,
+  onVerifyFinal,
+  encodeAll,
+  lengths,
+  outcomeOf,
+  stepOf,
+  outputOf,
+  begins,
+}
 use Rattle.protocol.specs.Links.{announces, holdsVerify, used, full}
 use Rattle.protocol.specs.declared.Link.{Link}
 use Rattle.engine.specs.declared.stop.Checked.{Checked}
@@ -33,11 +62,13 @@ pub prime-no : (b : Base) (before : List Message) → primeHolds b ≡ false →
 unfolding primeCheck
 prime-no b before e = choose-no _ _ e
 
-pub secondary-yes : (b : Base) (v : List ℕ) (before : List Message) → secondaryHolds b v ≡ true → secondaryCheck b v before ≡ stops b 3 v before
+pub secondary-yes : (b : Base) (v : List ℕ) (before : List Message)
+    → secondaryHolds b v ≡ true → secondaryCheck b v before ≡ stops b 3 v before
 unfolding secondaryCheck
 secondary-yes b v before e = choose-yes _ _ e
 
-pub secondary-no : (b : Base) (v : List ℕ) (before : List Message) → secondaryHolds b v ≡ false → secondaryCheck b v before ≡ accepts b before
+pub secondary-no : (b : Base) (v : List ℕ) (before : List Message)
+    → secondaryHolds b v ≡ false → secondaryCheck b v before ≡ accepts b before
 unfolding secondaryCheck
 secondary-no b v before e = choose-no _ _ e
 
@@ -52,11 +83,26 @@ stops-bytes b state v = encode-one (correctFinal v)
 
 -- ---- a base that stops
 pub stopped-is : (b : Base) (state long : ℕ) (v list : List ℕ) → list ≡ padTo mostBases v → long ≡ length (frameOf 3 v)
-    → _≡_ {A = Checked} (record { base = record { n = b .n; t = b .t; state = state; sent = b .sent; own = b .own; «final_list» = list; links = b .links }; length = long }) (checkedOf (stops b state v []))
+    → _≡_ {A = Checked} (record {
+      base = record {
+        n = b .n;
+        t = b .t;
+        state = state;
+        sent = b .sent;
+        own = b .own;
+        «final_list» = list;
+        links = b .links;
+      };
+      length = long;
+    }) (checkedOf (stops b state v []))
 unfolding checkedOf stops accepts withState withFinal
 stopped-is b state long v list p q =
     let e : long ≡ length (encodeAll (stops b state v [] .says)) = q ∙ ap length (sym (stops-bytes b state v)) in
-    λ i. record { base = record { n = b .n; t = b .t; state = state; sent = b .sent; own = b .own; «final_list» = p i; links = b .links }; length = e i }
+    λ i. record {
+      base = record
+          { n = b .n; t = b .t; state = state; sent = b .sent; own = b .own; «final_list» = p i; links = b .links };
+      length = e i;
+    }
 
 -- a base that does not, and broadcasts nothing
 pub goes-on-is : (b : Base) → _≡_ {A = Checked} (record { base = b; length = 0 }) (checkedOf (accepts b []))
@@ -73,12 +119,14 @@ holds-front n v e = ap (padTo mostBases) (sym (pad-front mostBases v n e))
 
 -- ---- a check after a message that was broadcast
 -- a check stops the base or not; what was broadcast before stands before what it broadcasts
-check-said : (t : Bool) (b : Base) (state : ℕ) (v : List ℕ) (m : Message) → let d = choose t (stops b state v []) (accepts b []) in choose t (stops b state v (m ∷ [])) (accepts b (m ∷ [])) ≡ accepts (d .base) (m ∷ d .says)
+check-said : (t : Bool) (b : Base) (state : ℕ) (v : List ℕ) (m : Message) → let d = choose t (stops b state v []) (accepts b []) in
+    choose t (stops b state v (m ∷ [])) (accepts b (m ∷ [])) ≡ accepts (d .base) (m ∷ d .says)
 unfolding choose stops accepts
 check-said true b state v m = refl
 check-said false b state v m = refl
 
-check-lone : (t : Bool) (b : Base) (state : ℕ) (v : List ℕ) → let d = choose t (stops b state v []) (accepts b []) in (d ≡ accepts (d .base) (d .says)) × (length (d .says) ≤ 1)
+check-lone : (t : Bool) (b : Base) (state : ℕ) (v : List ℕ) → let d = choose t (stops b state v []) (accepts b []) in
+    (d ≡ accepts (d .base) (d .says)) × (length (d .says) ≤ 1)
 unfolding choose stops accepts
 check-lone true b state v = (refl, omega arith)
 check-lone false b state v = (refl, omega arith)
@@ -87,57 +135,71 @@ pub prime-said : (b : Base) (m : Message) → primeCheck b (m ∷ []) ≡ accept
 unfolding primeCheck
 prime-said b m = check-said (primeHolds b) b 2 (sort (certified b)) m
 
-pub prime-lone : (b : Base) → (primeCheck b [] ≡ accepts (primeCheck b [] .base) (primeCheck b [] .says)) × (length (primeCheck b [] .says) ≤ 1)
+pub prime-lone : (b : Base)
+    → (primeCheck b [] ≡ accepts (primeCheck b [] .base) (primeCheck b [] .says)) × (length (primeCheck b [] .says) ≤ 1)
 unfolding primeCheck
 prime-lone b = check-lone (primeHolds b) b 2 (sort (certified b))
 
-pub secondary-said : (b : Base) (v : List ℕ) (m : Message) → secondaryCheck b v (m ∷ []) ≡ accepts (secondaryCheck b v [] .base) (m ∷ secondaryCheck b v [] .says)
+pub secondary-said : (b : Base) (v : List ℕ) (m : Message)
+    → secondaryCheck b v (m ∷ []) ≡ accepts (secondaryCheck b v [] .base) (m ∷ secondaryCheck b v [] .says)
 unfolding secondaryCheck
 secondary-said b v m = check-said (secondaryHolds b v) b 3 v m
 
-pub secondary-lone : (b : Base) (v : List ℕ) → (secondaryCheck b v [] ≡ accepts (secondaryCheck b v [] .base) (secondaryCheck b v [] .says)) × (length (secondaryCheck b v [] .says) ≤ 1)
+pub secondary-lone : (b : Base) (v : List ℕ)
+    → (secondaryCheck b v [] ≡ accepts (secondaryCheck b v [] .base) (secondaryCheck b v [] .says))
+    × (length (secondaryCheck b v [] .says) ≤ 1)
 unfolding secondaryCheck
 secondary-lone b v = check-lone (secondaryHolds b v) b 3 v
 
 -- ---- the answer of an accepted arrival
-lone-lengths : (says : List Message) → length says ≤ 1 → (getD (lengths says) 0 0 ≡ length (encodeAll says)) × (getD (lengths says) 1 0 ≡ 0) × (getD (lengths says) 2 0 ≡ 0)
+lone-lengths : (says : List Message) → length says ≤ 1
+    → (getD (lengths says) 0 0 ≡ length (encodeAll says)) × (getD (lengths says) 1 0 ≡ 0) × (getD (lengths says) 2 0 ≡ 0)
 unfolding lengths encodeAll
 lone-lengths [] h = (refl, refl, refl)
 lone-lengths (m ∷ []) h = (ap length (sym (append-nil (encode m))), refl, refl)
 lone-lengths (m ∷ (k ∷ says)) h = absurd (omega arith)
 
 -- after a check alone: one frame at most
-pub one-step : (d k : Done) (ck : Checked) (r : Step) → d ≡ accepts (k .base) (k .says) → length (k .says) ≤ 1 → ck ≡ checkedOf k → r ≡ record { outcome = Accepted (ck .length) 0 0; base = ck .base } → r ≡ stepOf d
+pub one-step : (d k : Done) (ck : Checked) (r : Step) → d ≡ accepts (k .base) (k .says)
+    → length (k .says) ≤ 1 → ck ≡ checkedOf k → r ≡ record { outcome = Accepted (ck .length) 0 0; base = ck .base } → r ≡ stepOf d
 unfolding stepOf accepts outcomeOf checkedOf
 one-step d k ck r e h p q =
     let l = lone-lengths (k .says) h in
     let long : ck .length ≡ getD (lengths (k .says)) 0 0 = ap (λ (x : Checked). x .length) p ∙ sym (l .0) in
-    let left : r ≡ stepOf (accepts (k .base) (k .says)) = q ∙ (λ i. record { outcome = Accepted (long i) (sym (l .1) i) (sym (l .2) i); base = p i .base }) in
+    let left : r ≡ stepOf (accepts (k .base) (k .says)) = q
+    ∙ (λ i. record { outcome = Accepted (long i) (sym (l .1) i) (sym (l .2) i); base = p i .base }) in
     left ∙ ap stepOf (sym e)
 
 -- after a message that was broadcast, and a check: one frame, and one more at most
-pub two-step : (d k : Done) (m : Message) (ck : Checked) (first : ℕ) (r : Step) → d ≡ accepts (k .base) (m ∷ k .says) → length (k .says) ≤ 1 → ck ≡ checkedOf k
+pub two-step : (d k : Done) (m : Message) (ck : Checked) (first : ℕ) (r : Step)
+    → d ≡ accepts (k .base) (m ∷ k .says) → length (k .says) ≤ 1 → ck ≡ checkedOf k
     → first ≡ length (frameOf (kindOf m) (idsOf m)) → r ≡ record { outcome = Accepted first (ck .length) 0; base = ck .base } → r ≡ stepOf d
 unfolding stepOf accepts outcomeOf lengths checkedOf encode
 two-step d k m ck first r e h p f q =
     let l = lone-lengths (k .says) h in
     let long : ck .length ≡ getD (lengths (k .says)) 0 0 = ap (λ (x : Checked). x .length) p ∙ sym (l .0) in
-    let left : r ≡ stepOf (accepts (k .base) (m ∷ k .says)) = q ∙ (λ i. record { outcome = Accepted (f i) (long i) (sym (l .1) i); base = p i .base }) in
+    let left : r ≡ stepOf (accepts (k .base) (m ∷ k .says)) = q
+    ∙ (λ i. record { outcome = Accepted (f i) (long i) (sym (l .1) i); base = p i .base }) in
     left ∙ ap stepOf (sym e)
 
 -- ---- the output of frames one behind another
-two-bytes : (b : Base) (m : Message) (says : List Message) → encodeAll (accepts b (m ∷ says) .says) ≡ frameOf (kindOf m) (idsOf m) ++ encodeAll says
+two-bytes : (b : Base) (m : Message) (says : List Message)
+    → encodeAll (accepts b (m ∷ says) .says) ≡ frameOf (kindOf m) (idsOf m) ++ encodeAll says
 unfolding accepts encodeAll encode
 two-bytes b m says = refl
 
-pub two-room : (d : Done) (b : Base) (m : Message) (says : List Message) → d ≡ accepts b (m ∷ says) → length (encodeAll (d .says)) ≡ frameBytes (length (idsOf m)) + length (encodeAll says)
+pub two-room : (d : Done) (b : Base) (m : Message) (says : List Message)
+    → d ≡ accepts b (m ∷ says) → length (encodeAll (d .says)) ≡ frameBytes (length (idsOf m)) + length (encodeAll says)
 two-room d b m says e =
-    ap (λ (x : Done). length (encodeAll (x .says))) e ∙ ap length (two-bytes b m says) ∙ length-append (frameOf (kindOf m) (idsOf m)) (encodeAll says)
+    ap (λ (x : Done). length (encodeAll (x .says))) e
+    ∙ ap length (two-bytes b m says) ∙ length-append (frameOf (kindOf m) (idsOf m)) (encodeAll says)
     ∙ ap (λ (k : ℕ). k + length (encodeAll says)) (length-frame (kindOf m) (idsOf m))
 
-pub two-output : (d : Done) (b : Base) (m : Message) (says : List Message) (output after : List ℕ) → d ≡ accepts b (m ∷ says) → after ≡ over (frameOf (kindOf m) (idsOf m) ++ encodeAll says) output → after ≡ outputOf d output
+pub two-output : (d : Done) (b : Base) (m : Message) (says : List Message) (output after : List ℕ)
+    → d ≡ accepts b (m ∷ says) → after ≡ over (frameOf (kindOf m) (idsOf m) ++ encodeAll says) output → after ≡ outputOf d output
 unfolding outputOf
-two-output d b m says output after e p = p ∙ ap (λ (f : List ℕ). over f output) (sym (two-bytes b m says)) ∙ ap (λ (x : Done). over (encodeAll (x .says)) output) (sym e)
+two-output d b m says output after e p = p
+    ∙ ap (λ (f : List ℕ). over f output) (sym (two-bytes b m says)) ∙ ap (λ (x : Done). over (encodeAll (x .says)) output) (sym e)
 
 -- the rest of an output, past its first bytes
 pub rest-length : (output : List ℕ) (first : ℕ) → length (take (length output - first) (drop first output)) ≡ length output - first
@@ -152,12 +214,14 @@ discards-output : (b : Base) (output : List ℕ) → output ≡ outputOf (discar
 unfolding outputOf discards encodeAll
 discards-output b output = sym (over-nothing output)
 
-pub dropped : (d : Done) (b : Base) (r : Step) (output : List ℕ) → d ≡ discards b → r ≡ stepOf (discards b) → (r ≡ stepOf d) × (output ≡ outputOf d output)
+pub dropped : (d : Done) (b : Base) (r : Step) (output : List ℕ)
+    → d ≡ discards b → r ≡ stepOf (discards b) → (r ≡ stepOf d) × (output ≡ outputOf d output)
 dropped d b r output e p = (p ∙ ap stepOf (sym e), discards-output b output ∙ ap (λ (x : Done). outputOf x output) (sym e))
 
 -- ---- each kind of message, by whether it is taken in
 module _ (b : Base) (i : ℕ) where
-  pub announce-dropped : (g : ℕ) → or (announces (linkAt b i)) (or (member g (certified b)) (full (b .n) (linkAt b i))) ≡ true → onAnnounce b i g ≡ discards b
+  pub announce-dropped : (g : ℕ)
+      → or (announces (linkAt b i)) (or (member g (certified b)) (full (b .n) (linkAt b i))) ≡ true → onAnnounce b i g ≡ discards b
   unfolding onAnnounce
   announce-dropped g e = choose-yes _ _ e
 
@@ -179,7 +243,8 @@ module _ (b : Base) (i : ℕ) where
   unfolding onCorrectFinal
   correct-dropped v e = choose-yes _ _ (eq-eqb (linkAt b i .held) 3 e)
 
-  pub correct-taken : (v : List ℕ) → (linkAt b i .held ≡ 3 → ⊥) → onCorrectFinal b i v ≡ voteAndCheck (withLink b i (withVector (linkAt b i) 3 v)) v
+  pub correct-taken : (v : List ℕ)
+      → (linkAt b i .held ≡ 3 → ⊥) → onCorrectFinal b i v ≡ voteAndCheck (withLink b i (withVector (linkAt b i) 3 v)) v
   unfolding onCorrectFinal voteAndCheck
   correct-taken v p = choose-no _ _ (ne-eqb (linkAt b i .held) 3 p)
 
@@ -187,18 +252,22 @@ module _ (b : Base) (i : ℕ) where
   unfolding onVerifyFinal
   verify-final-dropped v e = choose-yes _ _ (ap not (ne-eqb (linkAt b i .held) 0 e))
 
-  pub verify-final-taken : (v : List ℕ) → linkAt b i .held ≡ 0 → let k = secondaryCheck (withLink b i (withVector (linkAt b i) 4 v)) v [] in onVerifyFinal b i v ≡ accepts (k .base) (k .says)
+  pub verify-final-taken : (v : List ℕ) → linkAt b i .held ≡ 0
+      → let k = secondaryCheck (withLink b i (withVector (linkAt b i) 4 v)) v [] in onVerifyFinal b i v ≡ accepts (k .base) (k .says)
   unfolding onVerifyFinal
   verify-final-taken v p = choose-no _ _ (ap not (eq-eqb (linkAt b i .held) 0 p)) ∙ secondary-lone _ v .0
 
 -- ---- the vote
-pub voted : (b : Base) (v : List ℕ) → votes b v ≡ true → let k = secondaryCheck (withSent b) v [] in voteAndCheck b v ≡ accepts (k .base) (verifyFinal v ∷ k .says)
+pub voted : (b : Base) (v : List ℕ) → votes b v ≡ true → let k = secondaryCheck (withSent b) v [] in
+    voteAndCheck b v ≡ accepts (k .base) (verifyFinal v ∷ k .says)
 unfolding voteAndCheck vote accepts
-voted b v e = ap (λ (d : Done). secondaryCheck (d .base) v (d .says)) (choose-yes (accepts (withSent b) (verifyFinal v ∷ [])) (accepts b []) e) ∙ secondary-said (withSent b) v (verifyFinal v)
+voted b v e = ap (λ (d : Done). secondaryCheck (d .base) v (d .says))
+    (choose-yes (accepts (withSent b) (verifyFinal v ∷ [])) (accepts b []) e) ∙ secondary-said (withSent b) v (verifyFinal v)
 
 pub unvoted : (b : Base) (v : List ℕ) → votes b v ≡ false → let k = secondaryCheck b v [] in voteAndCheck b v ≡ accepts (k .base) (k .says)
 unfolding voteAndCheck vote accepts
-unvoted b v e = ap (λ (d : Done). secondaryCheck (d .base) v (d .says)) (choose-no (accepts (withSent b) (verifyFinal v ∷ [])) (accepts b []) e) ∙ secondary-lone b v .0
+unvoted b v e = ap (λ (d : Done). secondaryCheck (d .base) v (d .says))
+    (choose-no (accepts (withSent b) (verifyFinal v ∷ [])) (accepts b []) e) ∙ secondary-lone b v .0
 
 -- a link that is not full has a place left for a Verify
 pub full-room : (n : ℕ) (l : Link) → full n l ≡ false → n ≤ mostBases → l .«verify_count» < listRoom
@@ -210,32 +279,39 @@ pub one-room : (d k : Done) → d ≡ accepts (k .base) (k .says) → length (en
 unfolding accepts
 one-room d k e = ap (λ (x : Done). length (encodeAll (x .says))) e
 
-pub one-output : (d k : Done) (output after : List ℕ) → d ≡ accepts (k .base) (k .says) → after ≡ outputOf k output → after ≡ outputOf d output
+pub one-output : (d k : Done) (output after : List ℕ)
+    → d ≡ accepts (k .base) (k .says) → after ≡ outputOf k output → after ≡ outputOf d output
 unfolding accepts outputOf
 one-output d k output after e p = p ∙ ap (λ (x : Done). over (encodeAll (x .says)) output) (sym e)
 
 -- a vector message stored on the link at place i: the array holds the list
 pub stored-vector : (b : Base) (i kind n : ℕ) (v : List ℕ) → Holds n v → let l = linkAt b i in
-    withLink b i (record { announce = l .announce; verifies = l .verifies; list = v; «verify_count» = l .«verify_count»; held = kind }) ≡ withLink b i (withVector l kind (take n v))
+    withLink b i (record { announce = l .announce; verifies = l .verifies; list = v; «verify_count» = l .«verify_count»; held = kind })
+    ≡ withLink b i (withVector l kind (take n v))
 unfolding withVector
 stored-vector b i kind n v h =
     let l = linkAt b i in
-    ap (λ (list : List ℕ). withLink b i (record { announce = l .announce; verifies = l .verifies; list = list; «verify_count» = l .«verify_count»; held = kind })) h
+    ap (λ (list : List ℕ). withLink b i
+    (record { announce = l .announce; verifies = l .verifies; list = list; «verify_count» = l .«verify_count»; held = kind })) h
 
 -- ---- a start
-pub begins-step : (b : Base) (front next : ℕ) (r : Step) → front ≡ frameBytes 1 → next ≡ front → r ≡ record { outcome = Accepted front next 0; base = withState b 1 } → r ≡ stepOf (begins b)
+pub begins-step : (b : Base) (front next : ℕ) (r : Step) → front ≡ frameBytes 1
+    → next ≡ front → r ≡ record { outcome = Accepted front next 0; base = withState b 1 } → r ≡ stepOf (begins b)
 unfolding stepOf begins accepts outcomeOf lengths encode kindOf idsOf
 begins-step b front next r e f q =
     let first : front ≡ length (frameOf 1 (b .own ∷ [])) = e ∙ sym (length-frame 1 (b .own ∷ [])) in
     let second : next ≡ length (frameOf 2 (b .own ∷ [])) = f ∙ e ∙ sym (length-frame 2 (b .own ∷ [])) in
     q ∙ (λ i. record { outcome = Accepted (first i) (second i) 0; base = withState b 1 })
 
-pub begins-output : (b : Base) (output after : List ℕ) → after ≡ over (frameOf 1 (b .own ∷ []) ++ frameOf 2 (b .own ∷ [])) output → after ≡ outputOf (begins b) output
+pub begins-output : (b : Base) (output after : List ℕ)
+    → after ≡ over (frameOf 1 (b .own ∷ []) ++ frameOf 2 (b .own ∷ [])) output → after ≡ outputOf (begins b) output
 unfolding outputOf begins accepts encodeAll encode kindOf idsOf
-begins-output b output after p = p ∙ ap (λ (f : List ℕ). over (frameOf 1 (b .own ∷ []) ++ f) output) (sym (append-nil (frameOf 2 (b .own ∷ []))))
+begins-output b output after p = p
+    ∙ ap (λ (f : List ℕ). over (frameOf 1 (b .own ∷ []) ++ f) output) (sym (append-nil (frameOf 2 (b .own ∷ []))))
 
 -- ---- a call that does what another definition says
-pub does : (d k : Done) (r : Step) (output after : List ℕ) → d ≡ k → (r ≡ stepOf k) × (after ≡ outputOf k output) → (r ≡ stepOf d) × (after ≡ outputOf d output)
+pub does : (d k : Done) (r : Step) (output after : List ℕ)
+    → d ≡ k → (r ≡ stepOf k) × (after ≡ outputOf k output) → (r ≡ stepOf d) × (after ≡ outputOf d output)
 does d k r output after e p = (p .0 ∙ ap stepOf (sym e), p .1 ∙ ap (λ (x : Done). outputOf x output) (sym e))
 
 pub needs-room : {d k : Done} (room : ℕ) → d ≡ k → length (encodeAll (d .says)) ≤ room → length (encodeAll (k .says)) ≤ room

@@ -20,13 +20,18 @@ hear-frame-requires : tie.Need-hear-frame-requires
 hear-frame-requires c κs = search needs
 
 returns-2 : tie.Need-returns-2
-returns-2 c = carry-unheard _ _ _ _ _ _ (c .before .before .before .before .before .before .carry-refusal .ensures) (c .before .before .before .before .before .if1 .left) (c .before .before .before .before .link-to .ensures) (c .before .before .before .broadcast .ensures) (c .before .before .hear-frame .ensures) (c .if2 .taken)
+returns-2 c = carry-unheard _ _ _ _ _ _ (c .before .before .before .before .before .before .carry-refusal .ensures)
+    (c .before .before .before .before .before .if1 .left) (c .before .before .before .before .link-to .ensures)
+    (c .before .before .before .broadcast .ensures) (c .before .before .hear-frame .ensures) (c .if2 .taken)
 
 mark-requires : tie.Need-mark-requires
 mark-requires c κs = search needs
 
 returns-3 : tie.Need-returns-3
-returns-3 c = carry-heard _ _ _ _ _ _ (c .before .before .before .before .before .before .before .before .carry-refusal .ensures) (c .before .before .before .before .before .before .before .if1 .left) (c .before .before .before .before .before .before .link-to .ensures) (c .before .before .before .before .before .broadcast .ensures) (c .before .before .before .before .hear-frame .ensures) (c .before .before .if2 .left) (c .mark .ensures)
+returns-3 c = carry-heard _ _ _ _ _ _ (c .before .before .before .before .before .before .before .before .carry-refusal .ensures)
+    (c .before .before .before .before .before .before .before .if1 .left)
+    (c .before .before .before .before .before .before .link-to .ensures) (c .before .before .before .before .before .broadcast .ensures)
+    (c .before .before .before .before .hear-frame .ensures) (c .before .before .if2 .left) (c .mark .ensures)
 
 pub carry-spec : {M : Type 1} → statement M
 carry-spec =

@@ -20,13 +20,18 @@ heard-requires : tie.Need-heard-requires
 heard-requires c κs = search needs
 
 returns-3 : tie.Need-returns-3
-returns-3 c = repeated _ _ _ _ _ _ (c .before .before .before .before .before .before .if1 .left) (c .before .before .before .before .before .broadcasts .ensures .0) (c .before .before .before .before .if2 .left) (c .before .before .before .is-good .ensures) (c .before .before .if3 .taken) (c .before .heard .ensures) (c .if4 .taken)
+returns-3 c = repeated _ _ _ _ _ _ (c .before .before .before .before .before .before .if1 .left)
+    (c .before .before .before .before .before .broadcasts .ensures .0) (c .before .before .before .before .if2 .left)
+    (c .before .before .before .is-good .ensures) (c .before .before .if3 .taken) (c .before .heard .ensures) (c .if4 .taken)
 
 returns-4 : tie.Need-returns-4
-returns-4 c = first-time _ _ _ _ _ _ (c .before .before .before .before .before .before .if1 .left) (c .before .before .before .before .before .broadcasts .ensures .0) (c .before .before .before .before .if2 .left) (c .before .heard .ensures) (c .if4 .left)
+returns-4 c = first-time _ _ _ _ _ _
+    (c .before .before .before .before .before .before .if1 .left) (c .before .before .before .before .before .broadcasts .ensures .0)
+    (c .before .before .before .before .if2 .left) (c .before .heard .ensures) (c .if4 .left)
 
 returns-5 : tie.Need-returns-5
-returns-5 c = on-a-faulty-link _ _ _ _ _ _ (c .before .before .before .before .if1 .left) (c .before .before .before .broadcasts .ensures .0) (c .before .before .if2 .left) (c .before .is-good .ensures) (c .if3 .left)
+returns-5 c = on-a-faulty-link _ _ _ _ _ _ (c .before .before .before .before .if1 .left)
+    (c .before .before .before .broadcasts .ensures .0) (c .before .before .if2 .left) (c .before .is-good .ensures) (c .if3 .left)
 
 pub carry-refusal-spec : {M : Type 1} → statement M
 carry-refusal-spec =

@@ -24,7 +24,8 @@ enum-told-2 : tie.Need-enum-told-2
 enum-told-2 c = search needs
 
 returns-2 : tie.Need-returns-2
-returns-2 c = forge-unread _ _ _ _ _ (c .before .before .before .before .before .before .is-good .ensures) (c .before .before .before .before .before .if1 .left) (sym (c .before .before .read .ensures) ∙ c .enum-told2 .given .1)
+returns-2 c = forge-unread _ _ _ _ _ (c .before .before .before .before .before .before .is-good .ensures)
+    (c .before .before .before .before .before .if1 .left) (sym (c .before .before .read .ensures) ∙ c .enum-told2 .given .1)
 
 link-to-requires : tie.Need-link-to-requires
 link-to-requires c κs = search needs
@@ -33,7 +34,9 @@ hear-requires : tie.Need-hear-requires
 hear-requires c κs = search needs
 
 returns-3 : tie.Need-returns-3
-returns-3 c = forge-heard _ _ _ _ _ (c .before .before .before .before .before .before .before .before .before .is-good .ensures) (c .before .before .before .before .before .before .before .before .if1 .left) (c .before .before .link-to .ensures) (c .before .hear .ensures)
+returns-3 c = forge-heard _ _ _ _ _ (c .before .before .before .before .before .before .before .before .before .is-good .ensures)
+    (c .before .before .before .before .before .before .before .before .if1 .left)
+    (c .before .before .link-to .ensures) (c .before .hear .ensures)
 
 pub forge-spec : {M : Type 1} → statement M
 forge-spec =

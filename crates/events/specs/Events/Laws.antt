@@ -1,5 +1,5 @@
--- An event in its parts: turned down by 16 to 18, turned down by the base's call, or reaching the base; and that storing the base that it reached gives the
--- net after the event.
+-- An event in its parts: turned down by 16 to 18, turned down by the base's call, or reaching the base; and that storing the base
+-- that it reached gives the net after the event.
 use Prim.Native.Nat.{ℕ, zero, suc, _-_, _<_, _≤_}
 use mathlib.Core.Path.{_≡_, refl, sym, ap, ap₂, _∙_}
 use mathlib.Core.Logic.{_≢_}
@@ -12,7 +12,19 @@ use Rattle.limits.specs.Limits.{mostBases, outputRoom}
 use Rattle.limits.specs.Refusals.{netRefusal}
 use Rattle.limits.specs.Refusals.Laws.{net-passes}
 use Rattle.lists.specs.Choice.{choose, and, or, first}
-use Rattle.lists.specs.Choice.Laws.{chosen-yes, chosen-no, and-both, and-no, and-fails, or-first, or-second, or-neither, first-none, first-given, first-passed}
+use Rattle.lists.specs.Choice.Laws.{
+  chosen-yes,
+  chosen-no,
+  and-both,
+  and-no,
+  and-fails,
+  or-first,
+  or-second,
+  or-neither,
+  first-none,
+  first-given,
+  first-passed,
+}
 use Rattle.frame.specs.Reading.{burstRefusal, readRefusal}
 use Rattle.reader.specs.declared.Reading.the-variants.{Refused}
 use Rattle.reader.specs.Answers.{readingOf}
@@ -42,7 +54,8 @@ module _ (u : Node) where
   start-down : callRefusal (start (u .base) outputRoom .answer) ≢ 0 → Nodes.nodeAfter u (start (u .base) outputRoom) ≡ u
   start-down n = after-unchanged u _ (start-refused (u .base) outputRoom n)
 
-  arrival-down : (link : ℕ) (bytes : List ℕ) → callRefusal (arrival (u .base) link bytes outputRoom .answer) ≢ 0 → Nodes.nodeAfter u (arrival (u .base) link bytes outputRoom) ≡ u
+  arrival-down : (link : ℕ) (bytes : List ℕ) → callRefusal (arrival (u .base) link bytes outputRoom .answer) ≢ 0
+      → Nodes.nodeAfter u (arrival (u .base) link bytes outputRoom) ≡ u
   arrival-down link bytes n = after-unchanged u _ (arrival-refused (u .base) link bytes outputRoom n)
 
 -- ---- a carry: numbers 16 and 17
@@ -78,9 +91,11 @@ module _ (v u : Node) (faulty : List Nets.Pair) (a b k : ℕ) {n : ℕ} (en : n 
   carry-refused some =
       let r = callRefusal (carryCall v u a b k .answer) in
       ap₂ (λ (m : ℕ) (x : Node). record { refusal = m; node = x }) en
-      (chosen-no (marked (Nodes.nodeAfter u (carryCall v u a b k)) a k) (ne-eqb (first (carryRefusal v u faulty a b k) r) 0 (λ z. some (en ∙ sym (first-given r (λ y. some (en ∙ y))) ∙ z))) refl)
+      (chosen-no (marked (Nodes.nodeAfter u (carryCall v u a b k)) a k)
+      (ne-eqb (first (carryRefusal v u faulty a b k) r) 0 (λ z. some (en ∙ sym (first-given r (λ y. some (en ∙ y))) ∙ z))) refl)
 
-  module _ (none : n ≡ 0) {link : ℕ} (el : link ≡ linkTo b a) {f : Frame} (ef : f ≡ frameAt v k) {t : Told} (et : t ≡ told u (arrival (u .base) link (written f) outputRoom)) where
+  module _ (none : n ≡ 0) {link : ℕ} (el : link ≡ linkTo b a)
+      {f : Frame} (ef : f ≡ frameAt v k) {t : Told} (et : t ≡ told u (arrival (u .base) link (written f) outputRoom)) where
     is-call : arrival (u .base) link (written f) outputRoom ≡ carryCall v u a b k
     unfolding carryCall
     is-call = rw (el, ef) (ap (λ (bytes : List ℕ). arrival (u .base) (linkTo b a) bytes outputRoom) (frame-written v k))
@@ -94,11 +109,13 @@ module _ (v u : Node) (faulty : List Nets.Pair) (a b k : ℕ) {n : ℕ} (en : n 
 
     pub carry-unheard : t .refusal ≢ 0 → record { refusal = 0; node = u } ≡ carriedTo v u faulty a b k
     unfolding carriedTo
-    carry-unheard some = ap₂ (λ (r : ℕ) (x : Node). record { refusal = r; node = x }) (sym (sym en ∙ none)) (chosen-no _ (ne-eqb _ 0 (λ z. some (sym zero-first ∙ z))) refl)
+    carry-unheard some = ap₂ (λ (r : ℕ) (x : Node). record { refusal = r; node = x })
+        (sym (sym en ∙ none)) (chosen-no _ (ne-eqb _ 0 (λ z. some (sym zero-first ∙ z))) refl)
 
     pub carry-heard : t .refusal ≡ 0 → {m : Node} → m ≡ marked (t .node) a k → record { refusal = 0; node = m } ≡ carriedTo v u faulty a b k
     unfolding carriedTo
-    carry-heard none-too {m} em = ap₂ (λ (r : ℕ) (x : Node). record { refusal = r; node = x }) (sym (sym en ∙ none)) (chosen-yes _ (eq-eqb _ 0 (zero-first ∙ none-too)) (em ∙ ap (λ (x : Node). marked x a k) node-is))
+    carry-heard none-too {m} em = ap₂ (λ (r : ℕ) (x : Node). record { refusal = r; node = x })
+        (sym (sym en ∙ none)) (chosen-yes _ (eq-eqb _ 0 (zero-first ∙ none-too)) (em ∙ ap (λ (x : Node). marked x a k) node-is))
       where
         node-is : t .node ≡ Nodes.nodeAfter u (carryCall v u a b k)
         node-is = ap (λ (x : Told). x .node) et ∙ (unfold told in ap (Nodes.nodeAfter u) is-call)
@@ -119,11 +136,14 @@ module _ (u : Node) (faulty : List Nets.Pair) (a b : ℕ) (bytes : List ℕ) {g 
       let burst : burstRefusal (c .n) bytes ≡ 0 = first-passed _ _ (first-passed _ _ (p .1) .1) .1 in
       q .1 (sym (q .0) ∙ (first-none (burstRefusal (c .n) bytes) net ∙ burst))
 
-  pub forge-unread : g ≡ false → {r : ℕ} → readingOf (u .base .n) bytes ≡ Refused r → record { refusal = 0; node = u } ≡ forgedTo u faulty a b bytes
+  pub forge-unread : g ≡ false
+      → {r : ℕ} → readingOf (u .base .n) bytes ≡ Refused r → record { refusal = 0; node = u } ≡ forgedTo u faulty a b bytes
   unfolding forgedTo
-  forge-unread f {r} e = chosen-no _ (sym eg ∙ f) (ap (λ (x : Node). record { refusal = 0; node = x }) (sym (arrival-down u (linkTo b a) bytes (unread (u .base) (linkTo b a) r e))))
+  forge-unread f {r} e = chosen-no _ (sym eg ∙ f)
+      (ap (λ (x : Node). record { refusal = 0; node = x }) (sym (arrival-down u (linkTo b a) bytes (unread (u .base) (linkTo b a) r e))))
 
-  pub forge-heard : g ≡ false → {link : ℕ} → link ≡ linkTo b a → {t : Told} → t ≡ told u (arrival (u .base) link bytes outputRoom) → record { refusal = 0; node = t .node } ≡ forgedTo u faulty a b bytes
+  pub forge-heard : g ≡ false → {link : ℕ} → link ≡ linkTo b a → {t : Told}
+      → t ≡ told u (arrival (u .base) link bytes outputRoom) → record { refusal = 0; node = t .node } ≡ forgedTo u faulty a b bytes
   unfolding forgedTo told
   forge-heard f el et = chosen-no _ (sym eg ∙ f) (rw (et, el))
 
@@ -138,13 +158,20 @@ stored-self : (w : Net) (b : ℕ) → withNode w b (nodeAt w b) ≡ w
 unfolding withNode nodeAt
 stored-self w b = go (inRange b mostBases)
   where
-    go : (t : Bool) → choose t (record { n = w .n; t = w .t; faulty = w .faulty; nodes = set (w .nodes) (b - 1) (choose t (getD (w .nodes) (b - 1) noNode) (emptyNode (w .n) (w .t))) }) w ≡ w
-    go true = unfold choose in ap (λ (l : List Node). record { n = w .n; t = w .t; faulty = w .faulty; nodes = l }) (set-self (w .nodes) (b - 1) noNode)
+    go : (t : Bool) → choose t (record {
+      n = w .n;
+      t = w .t;
+      faulty = w .faulty;
+      nodes = set (w .nodes) (b - 1) (choose t (getD (w .nodes) (b - 1) noNode) (emptyNode (w .n) (w .t)));
+    }) w ≡ w
+    go true = unfold choose in
+        ap (λ (l : List Node). record { n = w .n; t = w .t; faulty = w .faulty; nodes = l }) (set-self (w .nodes) (b - 1) noNode)
     go false = unfold choose in refl
 
 -- the base that an event reaches, as the event leaves it
 unfoldable pub reachedNode : Net → Event → Node
-reachedNode w e = choose (eqb (refusal (faultyOf w) (shown w) e) 0) (marks e (Nodes.nodeAfter (nodeAt w (at e)) (call (shown w) e))) (nodeAt w (at e))
+reachedNode w e =
+    choose (eqb (refusal (faultyOf w) (shown w) e) 0) (marks e (Nodes.nodeAfter (nodeAt w (at e)) (call (shown w) e))) (nodeAt w (at e))
 
 pub reached-stored : (w : Net) (e : Event) → withNode w (at e) (reachedNode w e) ≡ after w e
 unfolding reachedNode after
@@ -161,15 +188,18 @@ unless-down {n} {x} {u} f = go (eqb n 0) refl
     go true e = unfold choose in refl
     go false e = unfold choose in f (eqb-false n 0 e)
 
-pub start-reaches : (w : Net) (b : ℕ) → Nodes.nodeAfter (nodeAt w b) (start (nodeAt w b .base) outputRoom) ≡ reachedNode w (starts b outputRoom)
+pub start-reaches : (w : Net) (b : ℕ)
+    → Nodes.nodeAfter (nodeAt w b) (start (nodeAt w b .base) outputRoom) ≡ reachedNode w (starts b outputRoom)
 unfolding reachedNode refusal eventRefusal at call marks shown first choose
 start-reaches w b = unless-down (start-down (nodeAt w b))
 
-pub carry-reaches : (w : Net) (a b k : ℕ) → carriedTo (nodeAt w a) (nodeAt w b) (faultyOf w) a b k ≡ record { refusal = eventRefusal (faultyOf w) (shown w) (carry a b k outputRoom); node = reachedNode w (carry a b k outputRoom) }
+pub carry-reaches : (w : Net) (a b k : ℕ) → carriedTo (nodeAt w a) (nodeAt w b) (faultyOf w) a b k
+    ≡ record { refusal = eventRefusal (faultyOf w) (shown w) (carry a b k outputRoom); node = reachedNode w (carry a b k outputRoom) }
 unfolding reachedNode refusal eventRefusal at call marks shown carriedTo carryRefusal carryCall broadcast
 carry-reaches w a b k = refl
 
-pub forge-reaches : (w : Net) (a b : ℕ) (bytes : List ℕ) → forgedTo (nodeAt w b) (faultyOf w) a b bytes ≡ record { refusal = eventRefusal (faultyOf w) (shown w) (forge a b bytes outputRoom); node = reachedNode w (forge a b bytes outputRoom) }
+pub forge-reaches : (w : Net) (a b : ℕ) (bytes : List ℕ) → forgedTo (nodeAt w b) (faultyOf w) a b bytes ≡ record
+    { refusal = eventRefusal (faultyOf w) (shown w) (forge a b bytes outputRoom); node = reachedNode w (forge a b bytes outputRoom) }
 unfolding reachedNode refusal eventRefusal at call marks shown forgedTo
 forge-reaches w a b bytes = go (good (faultyOf w) a b)
   where
@@ -180,6 +210,9 @@ forge-reaches w a b bytes = go (good (faultyOf w) a b)
     d = arrival (u .base) (linkTo b a) bytes outputRoom
 
     go : (t : Bool) → _≡_ {A = Reached} (choose t (record { refusal = 18; node = u }) (record { refusal = 0; node = Nodes.nodeAfter u d }))
-        (record { refusal = choose t 18 0; node = choose (eqb (first (choose t 18 0) (callRefusal (d .answer))) 0) (Nodes.nodeAfter u d) u })
+        (record {
+          refusal = choose t 18 0;
+          node = choose (eqb (first (choose t 18 0) (callRefusal (d .answer))) 0) (Nodes.nodeAfter u d) u;
+        })
     go true = unfold choose first in refl
     go false = unfold choose first in ap (λ (x : Node). record { refusal = 0; node = x }) (unless-down (arrival-down u (linkTo b a) bytes))

@@ -29,7 +29,15 @@ use Rattle.net.specs.Shown.{noNode, emptyNode, nodeAt, withNode, shown, pairOf,
 use Rattle.net.specs.Shown.Pairs.{noPair}
 use Rattle.net.specs.Header.{madeNet, namedNet, withFaulty}
 use Rattle.events.specs.Stands.{Stands}
-use Rattle.events.specs.Stands.Tables.{replaced-map, net-same, with-node-is, node-replaced, with-node-sized, with-node-links, node-sized}
+use Rattle.events.specs.Stands.Tables.{
+  replaced-map,
+  net-same,
+  with-node-is,
+  node-replaced,
+  with-node-sized,
+  with-node-links,
+  node-sized,
+}
 
 -- ---- a base at the beginning
 empty-sized : (n t : ℕ) → SizedNode (emptyNode n t)
@@ -43,13 +51,15 @@ zero-there (suc k) (suc i) = zero-there k i
 
 nothing-heard : (n t x j : ℕ) → heardBy (emptyNode n t) x j ≡ false
 unfolding heardBy emptyNode
-nothing-heard n t x j = ap (λ (m : ℕ). and (inRange x mostBases) (and (inRange j mostBroadcasts) (not (eqb m 0)))) (zero-there markRoom (markPlace x j))
+nothing-heard n t x j =
+    ap (λ (m : ℕ). and (inRange x mostBases) (and (inRange j mostBroadcasts) (not (eqb m 0)))) (zero-there markRoom (markPlace x j))
     ∙ ap (and (inRange x mostBases)) (and-no (inRange j mostBroadcasts)) ∙ and-no (inRange x mostBases)
 
 -- ---- `net n t`
 made-node : (n t y : ℕ) → nodeAt (madeNet n t) y ≡ emptyNode n t
 unfolding nodeAt madeNet
-made-node n t y = choose-ind (λ (v : Node). v ≡ emptyNode n t) (inRange y mostBases) (λ Y. let r = within-range y mostBases Y in getD-replicate mostBases (y - 1) (emptyNode n t) noNode (omega arith)) (λ _. refl)
+made-node n t y = choose-ind (λ (v : Node). v ≡ emptyNode n t) (inRange y mostBases)
+    (λ Y. let r = within-range y mostBases Y in getD-replicate mostBases (y - 1) (emptyNode n t) noNode (omega arith)) (λ _. refl)
 
 pub stands-made : (n t : ℕ) → Stands (madeNet n t) n t [] (idleNet n t (λ b. 0))
 stands-made n t = record {
@@ -87,7 +97,8 @@ stands-named b v least most {w} {n} {t} {faulty} {W} S = record {
   record-n = ap (λ (x : Net). x .n) (with-node-is w b u B) ∙ S .record-n;
   record-t = ap (λ (x : Net). x .t) (with-node-is w b u B) ∙ S .record-t;
   links = with-node-links w b u B ∙ S .links;
-  shows = shows-now ∙ ap (λ (U : Nets.Net). record { base = replaced b (idleBase n t v) (U .base); log = U .log; carried = U .carried }) (S .shows);
+  shows = shows-now
+      ∙ ap (λ (U : Nets.Net). record { base = replaced b (idleBase n t v) (U .base); log = U .log; carried = U .carried }) (S .shows);
   sized = with-node-sized w b u B (S .sized) (unfold withBase in record { frames = old .frames; heard = old .heard });
 }
   where
@@ -105,15 +116,19 @@ stands-named b v least most {w} {n} {t} {faulty} {W} S = record {
 
     base : (y : ℕ) → nodeAt (withNode w b u) y .base ≡ replaced b (idleBase n t v) (λ z. nodeAt w z .base) y
     base y = ap (λ (x : Node). x .base) (node-now y) ∙ replaced-map (λ (x : Node). x .base) b u (nodeAt w) y
-        ∙ ap (λ x. replaced b x (λ z. nodeAt w z .base) y) (unfold withBase in ap₂ (λ (i j : ℕ). idleBase i j v) (S .record-n) (S .record-t))
+        ∙ ap (λ x. replaced b x (λ z. nodeAt w z .base) y)
+        (unfold withBase in ap₂ (λ (i j : ℕ). idleBase i j v) (S .record-n) (S .record-t))
 
     log : (y : ℕ) → logOf (nodeAt (withNode w b u) y) ≡ logOf (nodeAt w y)
-    log y = ap logOf (node-now y) ∙ replaced-map logOf b u (nodeAt w) y ∙ replaced-self b (λ z. logOf (nodeAt w z)) (logOf u) (unfold withBase logOf in refl) y
+    log y = ap logOf (node-now y)
+        ∙ replaced-map logOf b u (nodeAt w) y ∙ replaced-self b (λ z. logOf (nodeAt w z)) (logOf u) (unfold withBase logOf in refl) y
 
     carried : (x y j : ℕ) → heardBy (nodeAt (withNode w b u) y) x j ≡ heardBy (nodeAt w y) x j
-    carried x y j = ap (λ (z : Node). heardBy z x j) (node-now y) ∙ replaced-map (λ (z : Node). heardBy z x j) b u (nodeAt w) y ∙ replaced-self b (λ z. heardBy (nodeAt w z) x j) (heardBy u x j) (unfold withBase heardBy in refl) y
+    carried x y j = ap (λ (z : Node). heardBy z x j) (node-now y) ∙ replaced-map (λ (z : Node). heardBy z x j) b u (nodeAt w) y
+        ∙ replaced-self b (λ z. heardBy (nodeAt w z) x j) (heardBy u x j) (unfold withBase heardBy in refl) y
 
-    shows-now : shown (withNode w b u) ≡ record { base = replaced b (idleBase n t v) (shown w .base); log = shown w .log; carried = shown w .carried }
+    shows-now : shown (withNode w b u)
+        ≡ record { base = replaced b (idleBase n t v) (shown w .base); log = shown w .log; carried = shown w .carried }
     shows-now = unfold shown in net-same _ _ base log carried
 
 -- ---- `faulty a b`
@@ -121,15 +136,21 @@ map-snoc : (pairs : List Pair) (p : Pair) → map pairOf (pairs ++ (p ∷ [])) �
 map-snoc [] p = refl
 map-snoc (q ∷ pairs) p = ap (λ (l : List Nets.Pair). pairOf q ∷ l) (map-snoc pairs p)
 
-pub stands-faulty : (a b : ℕ) {w : Net} {n t : ℕ} {faulty : List Nets.Pair} {W : Nets.Net} → length faulty < faultyRoom → Stands w n t faulty W
+pub stands-faulty : (a b : ℕ) {w : Net} {n t : ℕ} {faulty : List Nets.Pair} {W : Nets.Net}
+    → length faulty < faultyRoom → Stands w n t faulty W
     → Stands (withFaulty w a b) n t (faulty ++ (record { one = a; other = b } ∷ [])) W
-stands-faulty a b {w} {n} {t} {faulty} {W} few S = subst (λ (x : Net). Stands x n t (faulty ++ (record { one = a; other = b } ∷ [])) W) (sym is) (record {
-  record-n = S .record-n;
-  record-t = S .record-t;
-  links = links ∙ ap (λ (l : List Nets.Pair). l ++ (record { one = a; other = b } ∷ [])) (S .links);
-  shows = same ∙ S .shows;
-  sized = record { nodes = S .sized .nodes; each = S .sized .each; pairs = length-set (f .pairs) (f .count) (record { one = a; other = b }) ∙ S .sized .pairs };
-})
+stands-faulty a b {w} {n} {t} {faulty} {W} few S =
+    subst (λ (x : Net). Stands x n t (faulty ++ (record { one = a; other = b } ∷ [])) W) (sym is) (record {
+      record-n = S .record-n;
+      record-t = S .record-t;
+      links = links ∙ ap (λ (l : List Nets.Pair). l ++ (record { one = a; other = b } ∷ [])) (S .links);
+      shows = same ∙ S .shows;
+      sized = record {
+        nodes = S .sized .nodes;
+        each = S .sized .each;
+        pairs = length-set (f .pairs) (f .count) (record { one = a; other = b }) ∙ S .sized .pairs;
+      };
+    })
   where
     f : Faulty
     f = w .faulty
@@ -138,7 +159,15 @@ stands-faulty a b {w} {n} {t} {faulty} {W} few S = subst (λ (x : Net). Stands x
     more = record { count = f .count + 1; pairs = set (f .pairs) (f .count) (record { one = a; other = b }) }
 
     count : f .count < faultyRoom
-    count = omega (arith, few, ap length (S .links), named, length-map (take (f .count) (f .pairs)) pairOf, length-take (f .count) (f .pairs), S .sized .pairs)
+    count = omega (
+      arith,
+      few,
+      ap length (S .links),
+      named,
+      length-map (take (f .count) (f .pairs)) pairOf,
+      length-take (f .count) (f .pairs),
+      S .sized .pairs,
+    )
       where
         named : length (faultyOf w) ≡ length (map pairOf (take (f .count) (f .pairs)))
         named = unfold faultyOf pairsOf in refl
@@ -160,8 +189,11 @@ pub stands-size : {w : Net} {n t : ℕ} {faulty : List Nets.Pair} {W : Nets.Net}
 unfolding size
 stands-size h S = omega (arith, S .record-n)
 
-pub stands-waiting : {w : Net} {n t : ℕ} {faulty : List Nets.Pair} {W : Nets.Net} → n ≤ mostBases → Stands w n t faulty W → Nets.waiting (size w) (faultyOf w) (shown w) ≡ Nets.waiting n faulty W
-stands-waiting {w} {n} h S = ap (λ (k : ℕ). Nets.waiting k (faultyOf w) (shown w)) (stands-size h S) ∙ ap₂ (λ (l : List Nets.Pair) (U : Nets.Net). Nets.waiting n l U) (S .links) (S .shows)
+pub stands-waiting : {w : Net} {n t : ℕ} {faulty : List Nets.Pair} {W : Nets.Net}
+    → n ≤ mostBases → Stands w n t faulty W → Nets.waiting (size w) (faultyOf w) (shown w) ≡ Nets.waiting n faulty W
+stands-waiting {w} {n} h S = ap (λ (k : ℕ). Nets.waiting k (faultyOf w) (shown w)) (stands-size h S)
+    ∙ ap₂ (λ (l : List Nets.Pair) (U : Nets.Net). Nets.waiting n l U) (S .links) (S .shows)
 
-pub stands-number : {w : Net} {n t : ℕ} {faulty : List Nets.Pair} {W : Nets.Net} (e : Nets.Event) → Stands w n t faulty W → Nets.eventRefusal (faultyOf w) (shown w) e ≡ Nets.eventRefusal faulty W e
+pub stands-number : {w : Net} {n t : ℕ} {faulty : List Nets.Pair} {W : Nets.Net} (e : Nets.Event)
+    → Stands w n t faulty W → Nets.eventRefusal (faultyOf w) (shown w) e ≡ Nets.eventRefusal faulty W e
 stands-number e S = ap₂ (λ (l : List Nets.Pair) (U : Nets.Net). Nets.eventRefusal l U e) (S .links) (S .shows)

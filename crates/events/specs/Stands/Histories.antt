@@ -1,5 +1,5 @@
--- A history goes on by one event, and the program's net goes on standing for it. That there is room for what a base broadcasts is "A base broadcasts at most
--- n + 3 in its life", which holds after every history.
+-- A history goes on by one event, and the program's net goes on standing for it. That there is room for what a base broadcasts is
+-- "A base broadcasts at most n + 3 in its life", which holds after every history.
 use Prim.Native.Nat.{ℕ, zero, suc, _+_, _≤_}
 use mathlib.Core.Path.{_≡_, refl, sym, ap, ap₂, _∙_, subst}
 use mathlib.Core.Bool.{true}
@@ -26,7 +26,8 @@ use Rattle.events.specs.Stands.{Stands, History}
 use Rattle.events.specs.Stands.Steps.{HasPlace, shown-after, after-sized-net, after-links, after-n, after-t}
 
 -- ---- histories
-run-snoc : (faulty : List Pair) (W : Nets.Net) (es : List Event) (e : Event) → run faulty W (es ++ (e ∷ [])) ≡ happens faulty (run faulty W es) e
+run-snoc : (faulty : List Pair) (W : Nets.Net) (es : List Event) (e : Event)
+    → run faulty W (es ++ (e ∷ [])) ≡ happens faulty (run faulty W es) e
 unfolding run
 run-snoc faulty W [] e = refl
 run-snoc faulty W (f ∷ es) e = run-snoc faulty (happens faulty W f) es e
@@ -39,7 +40,8 @@ pub history-begins : {n t : ℕ} {faulty : List Pair} {W : Nets.Net} → Setting
 unfolding run
 history-begins {W = W} S F = record { beginning = W; events = []; setting = S; fresh = F; proper = tt; now-is = refl }
 
-pub history-goes-on : {n t : ℕ} {faulty : List Pair} {W : Nets.Net} (e : Event) → History n t faulty W → Proper n e → History n t faulty (happens faulty W e)
+pub history-goes-on : {n t : ℕ} {faulty : List Pair} {W : Nets.Net} (e : Event)
+    → History n t faulty W → Proper n e → History n t faulty (happens faulty W e)
 history-goes-on {n} {t} {faulty} e H p = record {
   beginning = H .beginning;
   events = H .events ++ (e ∷ []);
@@ -51,7 +53,8 @@ history-goes-on {n} {t} {faulty} e H p = record {
 
 -- "A base broadcasts at most n + 3 in its life."
 pub history-life : {n t : ℕ} {faulty : List Pair} {W : Nets.Net} → History n t faulty W → (b : ℕ) → BaseOf n b → length (W .log b) ≤ n + 3
-history-life {n} {t} {faulty} H b B = subst (λ (W : Nets.Net). length (W .log b) ≤ n + 3) (sym (H .now-is)) (orderly n t faulty (H .beginning) (H .events) (H .setting) (H .fresh) (H .proper) .life b B)
+history-life {n} {t} {faulty} H b B = subst (λ (W : Nets.Net). length (W .log b) ≤ n + 3)
+    (sym (H .now-is)) (orderly n t faulty (H .beginning) (H .events) (H .setting) (H .fresh) (H .proper) .life b B)
 
 at-proper : (n : ℕ) (e : Event) → Proper n e → BaseOf n (at e)
 unfolding at
@@ -71,10 +74,19 @@ module _ {n t : ℕ} {faulty : List Pair} {W : Nets.Net} (H : History n t faulty
   base-within b B = is-within (B .least) (omega (arith, B .most, N .most))
 
   room : refusal faulty W e ≡ 0 → length (W .log (at e)) + length (call W e .says) ≤ mostBroadcasts
-  room q = omega (arith, history-life (history-goes-on e H p) (at e) here, ap length after-log, length-append (W .log (at e)) (map encode (call W e .says)), length-map (call W e .says) encode, N .most)
+  room q = omega (
+    arith,
+    history-life (history-goes-on e H p) (at e) here,
+    ap length after-log,
+    length-append (W .log (at e)) (map encode (call W e .says)),
+    length-map (call W e .says) encode,
+    N .most,
+  )
     where
       after-log : happens faulty W e .log (at e) ≡ W .log (at e) ++ map encode (call W e .says)
-      after-log = unfold happens settled in ap (λ (U : Nets.Net). U .log (at e)) (choose-yes (settled W e) W (eq-eqb (refusal faulty W e) 0 q)) ∙ replaced-here (at e) (W .log (at e) ++ map encode (call W e .says)) (W .log)
+      after-log = unfold happens settled in
+          ap (λ (U : Nets.Net). U .log (at e)) (choose-yes (settled W e) W (eq-eqb (refusal faulty W e) 0 q))
+          ∙ replaced-here (at e) (W .log (at e) ++ map encode (call W e .says)) (W .log)
 
   place : refusal faulty W e ≡ 0 → HasPlace e
   unfolding refusal
@@ -83,7 +95,10 @@ module _ {n t : ℕ} {faulty : List Pair} {W : Nets.Net} (H : History n t faulty
       go : (e : Event) → Proper n e → eventRefusal faulty W e ≡ 0 → HasPlace e
       go (starts b size) p q = tt
       go (carry a b zero size) p q = absurd (carry-has-number faulty W a b size q)
-      go (carry a b (suc k) size) p q = (base-within a (p .0), is-within (omega arith) (omega (arith, carry-names-broadcast faulty W a b (suc k) size q, history-life H a (p .0), N .most)))
+      go (carry a b (suc k) size) p q = (
+        base-within a (p .0),
+        is-within (omega arith) (omega (arith, carry-names-broadcast faulty W a b (suc k) size q, history-life H a (p .0), N .most)),
+      )
       go (forge a b bytes size) p q = tt
 
   pub stands-goes-on : (w : Net) → Stands w n t faulty W → Stands (after w e) n t faulty (happens faulty W e)
@@ -98,7 +113,8 @@ module _ {n t : ℕ} {faulty : List Pair} {W : Nets.Net} (H : History n t faulty
       B : inRange (at e) mostBases ≡ true
       B = base-within (at e) here
 
-      fits : refusal (faultyOf w) (shown w) e ≡ 0 → (length (shown w .log (at e)) + length (call (shown w) e .says) ≤ mostBroadcasts) × HasPlace e
+      fits : refusal (faultyOf w) (shown w) e ≡ 0
+          → (length (shown w .log (at e)) + length (call (shown w) e .says) ≤ mostBroadcasts) × HasPlace e
       fits q =
           let r : refusal faulty W e ≡ 0 = ap₂ (λ (l : List Pair) (U : Nets.Net). refusal l U e) (sym (S .links)) (sym (S .shows)) ∙ q in
           (subst (λ (U : Nets.Net). length (U .log (at e)) + length (call U e .says) ≤ mostBroadcasts) (sym (S .shows)) (room r), place r)

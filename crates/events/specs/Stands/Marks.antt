@@ -28,14 +28,16 @@ marked-log v a k = choose-ind (λ (u : Node). logOf u ≡ logOf v) _ (λ _. (unf
 
 pub marked-sized : (v : Node) (a k : ℕ) → SizedNode v → SizedNode (marked v a k)
 unfolding marked
-marked-sized v a k Z = choose-ind SizedNode _ (λ _. record { frames = Z .frames; heard = length-set (v .heard) (markPlace a k) 1 ∙ Z .heard }) (λ _. Z)
+marked-sized v a k Z =
+    choose-ind SizedNode _ (λ _. record { frames = Z .frames; heard = length-set (v .heard) (markPlace a k) 1 ∙ Z .heard }) (λ _. Z)
 
 -- ---- each mark has its own markPlace
 place-below : (a k : ℕ) → inRange a mostBases ≡ true → inRange k mostBroadcasts ≡ true → markPlace a k < markRoom
 unfolding markPlace
 place-below a k A K = omega (arith, within-range a mostBases A, within-range k mostBroadcasts K)
 
-own-place : (a k x j : ℕ) → inRange a mostBases ≡ true → inRange k mostBroadcasts ≡ true → inRange x mostBases ≡ true → inRange j mostBroadcasts ≡ true → markPlace x j ≡ markPlace a k → (x ≡ a) × (j ≡ k)
+own-place : (a k x j : ℕ) → inRange a mostBases ≡ true → inRange k mostBroadcasts ≡ true
+    → inRange x mostBases ≡ true → inRange j mostBroadcasts ≡ true → markPlace x j ≡ markPlace a k → (x ≡ a) × (j ≡ k)
 unfolding markPlace
 own-place a k x j A K X J e =
     let ra = within-range a mostBases A in
@@ -50,9 +52,11 @@ unfolding and
 and-same true f = f refl
 and-same false f = refl
 
-pub heard-same : (v u : Node) (x j : ℕ) → (inRange x mostBases ≡ true → inRange j mostBroadcasts ≡ true → getD (u .heard) (markPlace x j) 0 ≡ getD (v .heard) (markPlace x j) 0) → heardBy u x j ≡ heardBy v x j
+pub heard-same : (v u : Node) (x j : ℕ) → (inRange x mostBases ≡ true → inRange j mostBroadcasts ≡ true
+    → getD (u .heard) (markPlace x j) 0 ≡ getD (v .heard) (markPlace x j) 0) → heardBy u x j ≡ heardBy v x j
 unfolding heardBy
-heard-same v u x j f = and-same (inRange x mostBases) (λ X. and-same (inRange j mostBroadcasts) (λ J. ap (λ (m : ℕ). not (eqb m 0)) (f X J)))
+heard-same v u x j f =
+    and-same (inRange x mostBases) (λ X. and-same (inRange j mostBroadcasts) (λ J. ap (λ (m : ℕ). not (eqb m 0)) (f X J)))
 
 module _ (v : Node) (a k : ℕ) (A : inRange a mostBases ≡ true) (K : inRange k mostBroadcasts ≡ true) (Z : SizedNode v) where
   is-set : marked v a k .heard ≡ set (v .heard) (markPlace a k) 1
@@ -61,17 +65,21 @@ module _ (v : Node) (a k : ℕ) (A : inRange a mostBases ≡ true) (K : inRange 
 
   here : heardBy (marked v a k) a k ≡ true
   unfolding heardBy
-  here = and-both A (and-both K (ap (λ (h : List ℕ). not (eqb (getD h (markPlace a k) 0) 0)) is-set ∙ ap (λ (m : ℕ). not (eqb m 0)) (getD-set-same (v .heard) (markPlace a k) 1 0 (omega (arith, place-below a k A K, Z .heard)))))
+  here = and-both A (and-both K (ap (λ (h : List ℕ). not (eqb (getD h (markPlace a k) 0) 0)) is-set
+      ∙ ap (λ (m : ℕ). not (eqb m 0)) (getD-set-same (v .heard) (markPlace a k) 1 0 (omega (arith, place-below a k A K, Z .heard)))))
 
   elsewhere : (x j : ℕ) → ((x ≡ a) × (j ≡ k) → ⊥) → heardBy (marked v a k) x j ≡ heardBy v x j
   elsewhere x j apart = heard-same v (marked v a k) x j
-      (λ X J. ap (λ (h : List ℕ). getD h (markPlace x j) 0) is-set ∙ getD-set-other (v .heard) (markPlace a k) (markPlace x j) 1 0 (λ e. apart (own-place a k x j A K X J e)))
+      (λ X J. ap (λ (h : List ℕ). getD h (markPlace x j) 0) is-set
+      ∙ getD-set-other (v .heard) (markPlace a k) (markPlace x j) 1 0 (λ e. apart (own-place a k x j A K X J e)))
 
   pub marked-heard : (x j : ℕ) → heardBy (marked v a k) x j ≡ or (and (eqb x a) (eqb j k)) (heardBy v x j)
   marked-heard x j = elim (ℕ-discrete x a) [
     | yes p ↦ elim (ℕ-discrete j k) [
       | yes q ↦ rw (p, q) (here ∙ sym (or-first _ (and-both (eq-eqb a a refl) (eq-eqb k k refl))))
-      | no q ↦ elsewhere x j (λ s. q (s .1)) ∙ sym (ap (λ (t : Bool). or t (heardBy v x j)) (ap (and (eqb x a)) (ne-eqb j k q) ∙ and-no (eqb x a)) ∙ (unfold or in refl))
+      | no q ↦ elsewhere x j (λ s. q (s .1))
+          ∙ sym (ap (λ (t : Bool). or t (heardBy v x j)) (ap (and (eqb x a)) (ne-eqb j k q) ∙ and-no (eqb x a)) ∙ (unfold or in refl))
     ]
-    | no p ↦ elsewhere x j (λ s. p (s .0)) ∙ sym (ap (λ (t : Bool). or t (heardBy v x j)) (sym (and-fails (eqb j k) (ne-eqb x a p))) ∙ (unfold or in refl))
+    | no p ↦ elsewhere x j (λ s. p (s .0))
+        ∙ sym (ap (λ (t : Bool). or t (heardBy v x j)) (sym (and-fails (eqb j k) (ne-eqb x a p))) ∙ (unfold or in refl))
   ]

@@ -1,4 +1,5 @@
--- A call on a node leaves the record and the broadcasts that the call is defined by, as long as there is room for the broadcasts; the carries stay.
+-- A call on a node leaves the record and the broadcasts that the call is defined by, as long as there is room for the broadcasts;
+-- the carries stay.
 use Prim.Native.Nat.{ℕ, _+_, _≤_, _<_}
 use mathlib.Core.Path.{_≡_, refl, sym, ap, _∙_}
 use mathlib.Core.List.{List, [], _∷_, _++_, map, append-assoc, append-nil}
@@ -26,7 +27,8 @@ pub record Same (v u : Node) : Type 0 where
 
 joined-same : (v : Node) (bytes : List ℕ) → Same v (joined v bytes)
 unfolding joined
-joined-same v bytes = choose-ind (Same v) (ltb (v .count) mostBroadcasts) (λ _. record { base = refl; heard = refl; places = length-set (v .frames) (v .count) (storedFrame bytes) })
+joined-same v bytes = choose-ind (Same v) (ltb (v .count) mostBroadcasts)
+    (λ _. record { base = refl; heard = refl; places = length-set (v .frames) (v .count) (storedFrame bytes) })
     (λ _. record { base = refl; heard = refl; places = refl })
 
 joined-all-same : (v : Node) (log : List (List ℕ)) → Same v (joinedAll v log)
@@ -53,22 +55,30 @@ counted : (v : Node) → SizedNode v → length (logOf v) < mostBroadcasts → v
 unfolding logOf
 counted v Z h = omega (arith, length-map (take (v .count) (v .frames)) written, length-take (v .count) (v .frames), Z .frames)
 
-joined-log : (v : Node) (bytes : List ℕ) → SizedNode v → length (logOf v) < mostBroadcasts → logOf (joined v bytes) ≡ logOf v ++ (bytes ∷ [])
+joined-log : (v : Node) (bytes : List ℕ)
+    → SizedNode v → length (logOf v) < mostBroadcasts → logOf (joined v bytes) ≡ logOf v ++ (bytes ∷ [])
 unfolding joined
 joined-log v bytes Z h = ap logOf (choose-yes _ _ (lt-ltb (v .count) mostBroadcasts (counted v Z h))) ∙ stored
   where
-    stored : logOf (record { base = v .base; count = v .count + 1; frames = set (v .frames) (v .count) (storedFrame bytes); heard = v .heard }) ≡ logOf v ++ (bytes ∷ [])
+    stored : logOf (record {
+      base = v .base;
+      count = v .count + 1;
+      frames = set (v .frames) (v .count) (storedFrame bytes);
+      heard = v .heard;
+    }) ≡ logOf v ++ (bytes ∷ [])
     stored = unfold logOf in rw (add-one (v .count))
         (ap (map written) (take-suc-set (v .frames) (v .count) (storedFrame bytes) (omega (arith, counted v Z h, Z .frames)))
         ∙ map-snoc (take (v .count) (v .frames)) (storedFrame bytes)
         ∙ ap (λ (b : List ℕ). map written (take (v .count) (v .frames)) ++ (b ∷ [])) (written-frame bytes))
 
-joined-all-log : (v : Node) (log : List (List ℕ)) → SizedNode v → length (logOf v) + length log ≤ mostBroadcasts → logOf (joinedAll v log) ≡ logOf v ++ log
+joined-all-log : (v : Node) (log : List (List ℕ))
+    → SizedNode v → length (logOf v) + length log ≤ mostBroadcasts → logOf (joinedAll v log) ≡ logOf v ++ log
 unfolding joinedAll
 joined-all-log v [] Z h = sym (append-nil (logOf v))
 joined-all-log v (bytes ∷ log) Z h =
     let one = joined-log v bytes Z (omega arith) in
-    joined-all-log (joined v bytes) log (same-sized (joined-same v bytes) Z) (more one) ∙ ap (λ (l : List (List ℕ)). l ++ log) one ∙ append-assoc (logOf v) (bytes ∷ []) log
+    joined-all-log (joined v bytes) log (same-sized (joined-same v bytes) Z) (more one)
+    ∙ ap (λ (l : List (List ℕ)). l ++ log) one ∙ append-assoc (logOf v) (bytes ∷ []) log
   where
     more : logOf (joined v bytes) ≡ logOf v ++ (bytes ∷ []) → length (logOf (joined v bytes)) + length log ≤ mostBroadcasts
     more one = omega (arith, simp length-append at (ap length one))
@@ -90,6 +100,8 @@ pub after-sized : (v : Node) (d : Done) → SizedNode v → SizedNode (nodeAfter
 unfolding nodeAfter
 after-sized v d Z = same-sized (joined-all-same (withBase v (d .base)) (map encode (d .says))) (with-base-sized v d Z)
 
-pub after-log : (v : Node) (d : Done) → SizedNode v → length (logOf v) + length (d .says) ≤ mostBroadcasts → logOf (nodeAfter v d) ≡ logOf v ++ map encode (d .says)
+pub after-log : (v : Node) (d : Done)
+    → SizedNode v → length (logOf v) + length (d .says) ≤ mostBroadcasts → logOf (nodeAfter v d) ≡ logOf v ++ map encode (d .says)
 unfolding nodeAfter
-after-log v d Z h = joined-all-log (withBase v (d .base)) (map encode (d .says)) (with-base-sized v d Z) (unfold withBase logOf in omega (arith, length-map (d .says) encode)) ∙ (unfold withBase logOf in refl)
+after-log v d Z h = joined-all-log (withBase v (d .base)) (map encode (d .says))
+    (with-base-sized v d Z) (unfold withBase logOf in omega (arith, length-map (d .says) encode)) ∙ (unfold withBase logOf in refl)

@@ -26,7 +26,15 @@ use Rattle.events.specs.Events.{marks, after}
 use Rattle.events.specs.Stands.{SizedNet}
 use Rattle.events.specs.Stands.Nodes.{after-base, after-heard, after-sized, after-log}
 use Rattle.events.specs.Stands.Marks.{marked-base, marked-log, marked-sized, marked-heard, heard-same}
-use Rattle.events.specs.Stands.Tables.{replaced-map, net-same, with-node-is, node-replaced, with-node-sized, with-node-links, node-sized}
+use Rattle.events.specs.Stands.Tables.{
+  replaced-map,
+  net-same,
+  with-node-is,
+  node-replaced,
+  with-node-sized,
+  with-node-links,
+  node-sized,
+}
 
 -- ---- the marks of an event
 marks-base : (e : Event) (v : Node) → marks e v .base ≡ v .base
@@ -62,14 +70,16 @@ unfolding marks at carriedAfter shown
 carried-here w (starts b room) x j P Z = after-hears (nodeAt w b) _ x j
 carried-here w (carry a b k room) x j P Z =
     marked-heard _ a k (P .0) (P .1) (after-sized (nodeAt w b) _ Z) x j
-    ∙ ap₂ (λ (s t : Bool). or (and (eqb x a) s) t) (sym (ap (λ (s : Bool). and s (eqb j k)) (eq-eqb b b refl) ∙ (unfold and in refl))) (after-hears (nodeAt w b) _ x j)
+    ∙ ap₂ (λ (s t : Bool). or (and (eqb x a) s) t)
+    (sym (ap (λ (s : Bool). and s (eqb j k)) (eq-eqb b b refl) ∙ (unfold and in refl))) (after-hears (nodeAt w b) _ x j)
 carried-here w (forge a b bytes room) x j P Z = after-hears (nodeAt w b) _ x j
 
 carried-other : (W : Nets.Net) (e : Event) (x y j : ℕ) → y ≢ at e → carriedAfter W e x y j ≡ W .carried x y j
 unfolding at carriedAfter
 carried-other W (starts b room) x y j ne = refl
 carried-other W (carry a b k room) x y j ne =
-    ap (λ (s : Bool). or s (W .carried x y j)) (ap (and (eqb x a)) (sym (and-fails (eqb j k) (ne-eqb y b ne))) ∙ and-no (eqb x a)) ∙ (unfold or in refl)
+    ap (λ (s : Bool). or s (W .carried x y j)) (ap (and (eqb x a)) (sym (and-fails (eqb j k) (ne-eqb y b ne))) ∙ and-no (eqb x a))
+    ∙ (unfold or in refl)
 carried-other W (forge a b bytes room) x y j ne = refl
 
 -- ---- an event that is not turned down
@@ -111,7 +121,8 @@ module _ (w : Net) (e : Event) (Z : SizedNet w) (B : inRange (at e) mostBases �
   abbrev number : ℕ
   number = refusal (faultyOf w) (shown w) e
 
-  pub shown-after : (number ≡ 0 → (length (shown w .log (at e)) + length (d .says) ≤ mostBroadcasts) × HasPlace e) → shown (after w e) ≡ happens (faultyOf w) (shown w) e
+  pub shown-after : (number ≡ 0 → (length (shown w .log (at e)) + length (d .says) ≤ mostBroadcasts) × HasPlace e)
+      → shown (after w e) ≡ happens (faultyOf w) (shown w) e
   unfolding after happens
   shown-after H = go (eqb number 0) refl
     where
@@ -121,7 +132,8 @@ module _ (w : Net) (e : Event) (Z : SizedNet w) (B : inRange (at e) mostBases �
 
   pub after-sized-net : SizedNet (after w e)
   unfolding after
-  after-sized-net = choose-ind SizedNet _ (λ _. with-node-sized w (at e) u B Z (marks-sized e (Nodes.nodeAfter v d) (after-sized v d sized-here))) (λ _. Z)
+  after-sized-net = choose-ind
+      SizedNet _ (λ _. with-node-sized w (at e) u B Z (marks-sized e (Nodes.nodeAfter v d) (after-sized v d sized-here))) (λ _. Z)
 
   pub after-links : faultyOf (after w e) ≡ faultyOf w
   unfolding after

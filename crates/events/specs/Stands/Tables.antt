@@ -39,7 +39,8 @@ unfolding replaced
 replaced-map f x a g y = choose-map f _ a (g y)
 
 -- nets are the same whose tables are
-pub net-same : (U W : Nets.Net) → ((y : ℕ) → U .base y ≡ W .base y) → ((y : ℕ) → U .log y ≡ W .log y) → ((x y j : ℕ) → U .carried x y j ≡ W .carried x y j) → U ≡ W
+pub net-same : (U W : Nets.Net) → ((y : ℕ) → U .base y ≡ W .base y)
+    → ((y : ℕ) → U .log y ≡ W .log y) → ((x y j : ℕ) → U .carried x y j ≡ W .carried x y j) → U ≡ W
 net-same U W b l c =
     ap (λ (f : ℕ → Base). record { base = f; log = U .log; carried = U .carried }) (fun-ext b)
     ∙ ap (λ (f : ℕ → List (List ℕ)). record { base = W .base; log = f; carried = U .carried }) (fun-ext l)
@@ -54,11 +55,14 @@ module _ (w : Net) (b : ℕ) (v : Node) (B : inRange b mostBases ≡ true) where
   range : (1 ≤ b) × (b ≤ mostBases)
   range = within-range b mostBases B
 
-  replaced-node : length (w .nodes) ≡ mostBases → (y : ℕ) → nodeAt (record { n = w .n; t = w .t; faulty = w .faulty; nodes = set (w .nodes) (b - 1) v }) y ≡ replaced b v (nodeAt w) y
+  replaced-node : length (w .nodes) ≡ mostBases → (y : ℕ)
+      → nodeAt (record { n = w .n; t = w .t; faulty = w .faulty; nodes = set (w .nodes) (b - 1) v }) y ≡ replaced b v (nodeAt w) y
   unfolding nodeAt
   replaced-node Z y = elim (ℕ-discrete y b) [
-    | yes p ↦ rw p (choose-yes _ _ B ∙ getD-set-same (w .nodes) (b - 1) v noNode (omega (arith, range, Z)) ∙ sym (replaced-here b v (nodeAt w)))
-    | no p ↦ choose-same (inRange y mostBases) (emptyNode (w .n) (w .t)) (λ Y. getD-set-other (w .nodes) (b - 1) (y - 1) v noNode (apart p (within-range y mostBases Y))) ∙ sym (replaced-other b v (nodeAt w) y p)
+    | yes p ↦ rw p (choose-yes _ _ B
+        ∙ getD-set-same (w .nodes) (b - 1) v noNode (omega (arith, range, Z)) ∙ sym (replaced-here b v (nodeAt w)))
+    | no p ↦ choose-same (inRange y mostBases) (emptyNode (w .n) (w .t)) (λ Y. getD-set-other
+        (w .nodes) (b - 1) (y - 1) v noNode (apart p (within-range y mostBases Y))) ∙ sym (replaced-other b v (nodeAt w) y p)
   ]
     where
       apart : y ≢ b → (1 ≤ y) × (y ≤ mostBases) → y - 1 ≢ b - 1
@@ -68,7 +72,8 @@ module _ (w : Net) (b : ℕ) (v : Node) (B : inRange b mostBases ≡ true) where
   node-replaced Z y = ap (λ (x : Net). nodeAt x y) with-node-is ∙ replaced-node Z y
 
   pub with-node-sized : SizedNet w → SizedNode v → SizedNet (withNode w b v)
-  with-node-sized Z S = subst SizedNet (sym with-node-is) (record { nodes = length-set (w .nodes) (b - 1) v ∙ Z .nodes; each = each; pairs = Z .pairs })
+  with-node-sized Z S =
+      subst SizedNet (sym with-node-is) (record { nodes = length-set (w .nodes) (b - 1) v ∙ Z .nodes; each = each; pairs = Z .pairs })
     where
       each : (i : ℕ) → i < mostBases → SizedNode (getD (set (w .nodes) (b - 1) v) i noNode)
       each i h = elim (ℕ-discrete i (b - 1)) [
@@ -82,4 +87,5 @@ module _ (w : Net) (b : ℕ) (v : Node) (B : inRange b mostBases ≡ true) where
 
 pub node-sized : (w : Net) (b : ℕ) → inRange b mostBases ≡ true → SizedNet w → SizedNode (nodeAt w b)
 unfolding nodeAt
-node-sized w b B Z = let r = within-range b mostBases B in subst SizedNode (sym (choose-yes (getD (w .nodes) (b - 1) noNode) (emptyNode (w .n) (w .t)) B)) (Z .each (b - 1) (omega arith))
+node-sized w b B Z = let r = within-range b mostBases B in
+    subst SizedNode (sym (choose-yes (getD (w .nodes) (b - 1) noNode) (emptyNode (w .n) (w .t)) B)) (Z .each (b - 1) (omega arith))

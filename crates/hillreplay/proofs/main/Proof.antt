@@ -11,7 +11,8 @@ use Rattle.hillreplay.proofs.main.Tie as tie
 
 -- what was read fits the buffer
 fits : (c : tie.After-known-told) → c .before .length .given .0 .0 ≤ length (c .before .before .before .before .read-input .last .0)
-fits c = let w = subst (ReadWithin _) (c .before .length .given .1) (c .before .before .before .before .read-input .ensures) in omega (arith, w, c .before .before .before .before .read-input .kept .0)
+fits c = let w = subst (ReadWithin _) (c .before .length .given .1) (c .before .before .before .before .read-input .ensures) in
+    omega (arith, w, c .before .before .before .before .read-input .kept .0)
 
 arg-count-requires : tie.Need-arg-count-requires
 arg-count-requires c κs = search needs
@@ -62,7 +63,8 @@ array-share-prefix-report : tie.Need-array-share-prefix-report
 array-share-prefix-report c = search needs
 
 slice-aggregate-write-all-2 : tie.Need-slice-aggregate-write-all-2
-slice-aggregate-write-all-2 c = sym (length-take-le _ _ (omega (arith, c .before .before .replay .ensures, c .before .before .replay .kept .1 .0)))
+slice-aggregate-write-all-2 c =
+    sym (length-take-le _ _ (omega (arith, c .before .before .replay .ensures, c .before .before .replay .kept .1 .0)))
 
 write-all-requires-2 : tie.Need-write-all-requires-2
 write-all-requires-2 c κs = search needs

@@ -15,8 +15,10 @@ abbrev μ-loop : tie.MeasureT-loop
 μ-loop buffer₀ done₀ turns₀ buffer done turns = length buffer₀ - turns
 
 -- what was read fits
-fits : (c : tie.After-known-told Inv-loop μ-loop) → c .before .now .given .0 .0 ≤ length (c .before .before .before .before .before .before .before .before .loop .buffer)
-fits c = subst (ReadWithin (length (c .before .before .before .before .before .before .before .before .loop .buffer))) (c .before .now .given .1) (c .before .before .before .before .before .read-more .ensures)
+fits : (c : tie.After-known-told Inv-loop μ-loop)
+    → c .before .now .given .0 .0 ≤ length (c .before .before .before .before .before .before .before .before .loop .buffer)
+fits c = subst (ReadWithin (length (c .before .before .before .before .before .before .before .before .loop .buffer)))
+    (c .before .now .given .1) (c .before .before .before .before .before .read-more .ensures)
 
 loop-holds : tie.Need-loop-holds Inv-loop μ-loop
 loop-holds c = (omega arith, (omega arith, refl))
@@ -49,7 +51,10 @@ loop-less : tie.Need-loop-less Inv-loop μ-loop
 loop-less c = search needs
 
 loop-again : tie.Need-loop-again Inv-loop μ-loop
-loop-again c = let k = c .before .before .before .before .before .before .read-more .kept .0 in (omega (arith, k), (omega (arith, k, fits (c .before)), k ∙ c .before .before .before .before .before .before .before .before .before .loop .inv .1 .1))
+loop-again c = let k = c .before .before .before .before .before .before .read-more .kept .0 in (
+  omega (arith, k),
+  (omega (arith, k, fits (c .before)), k ∙ c .before .before .before .before .before .before .before .before .before .loop .inv .1 .1),
+)
 
 same-length-3 : tie.Need-same-length-3 Inv-loop μ-loop
 same-length-3 c = search needs

@@ -20,7 +20,8 @@ passed : (c : tie.Else1) → recordRefusal (c .before .before .args .base) ≡ 0
 passed c = sym (c .before .record-refusal .ensures) ∙ c .if1 .left
 
 room : (c : tie.Else1) → let b = c .before .before .args .base in b .n ≤ length (b .«final_list»)
-room c = let b = c .before .before .args .base in omega (arith, record-passed b (passed c) .net .most, base-sized b _ (c .before .before .good .0) .final)
+room c = let b = c .before .before .args .base in
+    omega (arith, record-passed b (passed c) .net .most, base-sized b _ (c .before .before .good .0) .final)
 
 front : (c : tie.Else1) → let b = c .before .before .args .base in length (take (b .n) (b .«final_list»)) ≡ b .n
 front c = let b = c .before .before .args .base in length-take-le (b .n) (b .«final_list») (room c)
@@ -50,7 +51,8 @@ leader-of-requires c κs = search needs
 
 returns-3 : tie.Need-returns-3
 unfolding leaderAnswer stopped finalList
-returns-3 c = chosen-yes _ (eq-eqb _ 0 (passed (c .before .before .before .before .before .before))) (chosen-yes _ (le-leb 2 _ (c .before .before .before .before .if2 .left)) (ap leads.Is (c .leader-of .ensures)))
+returns-3 c = chosen-yes _ (eq-eqb _ 0 (passed (c .before .before .before .before .before .before)))
+    (chosen-yes _ (le-leb 2 _ (c .before .before .before .before .if2 .left)) (ap leads.Is (c .leader-of .ensures)))
 
 pub leader-spec : {M : Type 1} → statement M
 leader-spec =

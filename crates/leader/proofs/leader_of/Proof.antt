@@ -37,16 +37,25 @@ loop-less : tie.Need-loop-less Inv-loop μ-loop
 loop-less c = omega (arith, c .before .before .before .loop-test .taken)
 
 loop-again : tie.Need-loop-again Inv-loop μ-loop
-loop-again c = (leader-new _ _ _ (c .before .before .before .loop-test .taken) (c .before .before .before .before .loop .inv .1) (c .before .before .before .before .loop .inv .0) (c .before .if1 .taken), omega (arith, c .before .before .before .before .loop .inv .1))
+loop-again c = (
+  leader-new _ _ _ (c .before .before .before .loop-test .taken)
+      (c .before .before .before .before .loop .inv .1) (c .before .before .before .before .loop .inv .0) (c .before .if1 .taken),
+  omega (arith, c .before .before .before .before .loop .inv .1),
+)
 
 loop-less-2 : tie.Need-loop-less-2 Inv-loop μ-loop
 loop-less-2 c = omega (arith, c .before .before .loop-test .taken)
 
 loop-again-2 : tie.Need-loop-again-2 Inv-loop μ-loop
-loop-again-2 c = (leader-same _ _ _ (c .before .before .loop-test .taken) (c .before .before .before .loop .inv .1) (c .before .before .before .loop .inv .0) (c .if1 .left), omega (arith, c .before .before .before .loop .inv .1))
+loop-again-2 c = (
+  leader-same _ _ _ (c .before .before .loop-test .taken) (c .before .before .before .loop .inv .1)
+      (c .before .before .before .loop .inv .0) (c .if1 .left),
+  omega (arith, c .before .before .before .loop .inv .1),
+)
 
 returns : tie.Need-returns Inv-loop μ-loop
-returns c = let z : c .before .loop .i ≡ 0 = omega (arith, c .loop-test .left) in c .before .loop .inv .0 ∙ ap (λ (k : ℕ). leaderOf (drop k (c .before .before .args .list .now))) z
+returns c = let z : c .before .loop .i ≡ 0 = omega (arith, c .loop-test .left) in
+    c .before .loop .inv .0 ∙ ap (λ (k : ℕ). leaderOf (drop k (c .before .before .args .list .now))) z
 
 pub leader-of-spec : {M : Type 1} → statement M
 leader-of-spec =

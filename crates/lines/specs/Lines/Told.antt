@@ -52,19 +52,23 @@ use Rattle.lines.specs.Lines.{
 }
 
 -- ---- what holds of both ways of a reader
-pub number-ind : {A : Type 0} (P : A → Type 0) (x : Number) {none : A} {read : ℕ → ℕ → A} (Q : Number → Type 0) → Q x → P none → ((v p : ℕ) → Q (Value v p) → P (read v p)) → P (afterNumber x none read)
+pub number-ind : {A : Type 0} (P : A → Type 0) (x : Number) {none : A} {read : ℕ → ℕ → A} (Q : Number → Type 0)
+    → Q x → P none → ((v p : ℕ) → Q (Value v p) → P (read v p)) → P (afterNumber x none read)
 number-ind P Bad Q q n r = n
 number-ind P (Value v p) Q q n r = r v p q
 
-pub word-ind : {A : Type 0} (P : A → Type 0) (x : Word) {none : A} {read : ℕ → A} (Q : Word → Type 0) → Q x → P none → ((p : ℕ) → Q (Past p) → P (read p)) → P (afterWord x none read)
+pub word-ind : {A : Type 0} (P : A → Type 0) (x : Word) {none : A} {read : ℕ → A} (Q : Word → Type 0)
+    → Q x → P none → ((p : ℕ) → Q (Past p) → P (read p)) → P (afterWord x none read)
 word-ind P Other Q q n r = n
 word-ind P (Past p) Q q n r = r p q
 
-pub two-ind : {A : Type 0} (P : A → Type 0) (x : Two) {none : A} {read : ℕ → ℕ → ℕ → A} (Q : Two → Type 0) → Q x → P none → ((a b p : ℕ) → Q (Both a b p) → P (read a b p)) → P (afterTwo x none read)
+pub two-ind : {A : Type 0} (P : A → Type 0) (x : Two) {none : A} {read : ℕ → ℕ → ℕ → A} (Q : Two → Type 0)
+    → Q x → P none → ((a b p : ℕ) → Q (Both a b p) → P (read a b p)) → P (afterTwo x none read)
 two-ind P Neither Q q n r = n
 two-ind P (Both a b p) Q q n r = r a b p q
 
-pub hex-ind : {A : Type 0} (P : A → Type 0) (x : Hex) {none : A} {read : ℕ → ℕ → A} (Q : Hex → Type 0) → Q x → P none → ((k p : ℕ) → Q (hex.Bytes k p) → P (read k p)) → P (afterHex x none read)
+pub hex-ind : {A : Type 0} (P : A → Type 0) (x : Hex) {none : A} {read : ℕ → ℕ → A} (Q : Hex → Type 0)
+    → Q x → P none → ((k p : ℕ) → Q (hex.Bytes k p) → P (read k p)) → P (afterHex x none read)
 hex-ind P hex.Bad Q q n r = n
 hex-ind P (hex.Bytes k p) Q q n r = r k p q
 
@@ -77,13 +81,15 @@ two-told : (s : List ℕ) (p close : ℕ) → TwoTold p (twoAt s p close)
 unfolding twoAt
 two-told s p close =
     number-ind (TwoTold p) (fieldAt s p space) (Field p) (field-within s p space) tt
-    (λ a q f. number-ind (TwoTold p) (fieldAt s q close) (Field q) (field-within s q close) tt (λ b r g. (f .0, (g .0, omega (arith, f .1, g .1)))))
+    (λ a q f. number-ind (TwoTold p)
+    (fieldAt s q close) (Field q) (field-within s q close) tt (λ b r g. (f .0, (g .0, omega (arith, f .1, g .1)))))
 
 -- ---- the header's lines
 pub net-told : (s : List ℕ) (p : ℕ) → TwoTold p (netLine s p)
 unfolding netLine
 net-told s p =
-    word-ind (TwoTold p) (wordAt s p netWord) (Behind p) (word-behind s p netWord) tt (λ q w. further (twoAt s q lineFeed) q w (two-told s q lineFeed))
+    word-ind (TwoTold p) (wordAt s p netWord)
+    (Behind p) (word-behind s p netWord) tt (λ q w. further (twoAt s q lineFeed) q w (two-told s q lineFeed))
   where
     further : (x : Two) (q : ℕ) → p ≤ q → TwoTold q x → TwoTold p x
     further Neither q w t = tt

@@ -23,10 +23,26 @@ unfolding madeOf
 made-idle = choose-ind (λ (b : Base). b ≡ idleBase 0 0 0) (eqb (settingRefusal 0 0 0) 0) (λ _. refl) (λ _. refl)
 
 pub idle-from : (n t own : ℕ) {m : Made} → m ≡ madeOf 0 0 0
-    → record { n = n; t = t; state = m .base .state; sent = m .base .sent; own = own; «final_list» = m .base .«final_list»; links = m .base .links } ≡ idleBase n t own
+    → record {
+      n = n;
+      t = t;
+      state = m .base .state;
+      sent = m .base .sent;
+      own = own;
+      «final_list» = m .base .«final_list»;
+      links = m .base .links;
+    } ≡ idleBase n t own
 unfolding idleBase
 idle-from n t own e =
-    ap (λ (b : Base). record { n = n; t = t; state = b .state; sent = b .sent; own = own; «final_list» = b .«final_list»; links = b .links }) (ap (λ (m : Made). m .base) e ∙ made-idle)
+    ap (λ (b : Base). record {
+      n = n;
+      t = t;
+      state = b .state;
+      sent = b .sent;
+      own = own;
+      «final_list» = b .«final_list»;
+      links = b .links;
+    }) (ap (λ (m : Made). m .base) e ∙ made-idle)
 
 -- ---- faulty links
 module _ (t : ℕ) (faulty : List Nets.Pair) {r : ℕ} (e : r ≡ length faulty) where

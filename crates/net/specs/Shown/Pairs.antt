@@ -28,10 +28,12 @@ pairs-full f h = length-map (take (f .count) (f .pairs)) pairOf ∙ ap length (t
 pub pair-there : (f : Faulty) (i : ℕ) → i < length (pairsOf f) → pairOf (getD (f .pairs) i noPair) ≡ getD (pairsOf f) i (pairOf noPair)
 unfolding pairsOf
 pair-there f i h =
-    ap pairOf (sym (getD-take (f .count) (f .pairs) i noPair (omega (arith, length-map (take (f .count) (f .pairs)) pairOf, length-take (f .count) (f .pairs)))))
+    ap pairOf (sym (getD-take (f .count)
+    (f .pairs) i noPair (omega (arith, length-map (take (f .count) (f .pairs)) pairOf, length-take (f .count) (f .pairs)))))
     ∙ sym (List·getD-map pairOf (take (f .count) (f .pairs)) i noPair)
 
-pub joined-there : (f : Faulty) (i a b : ℕ) → i < length (pairsOf f) → {r : Bool} → r ≡ joins (pairOf (getD (f .pairs) i noPair)) a b → joins (getD (pairsOf f) i (pairOf noPair)) a b ≡ r
+pub joined-there : (f : Faulty) (i a b : ℕ) → i < length (pairsOf f)
+    → {r : Bool} → r ≡ joins (pairOf (getD (f .pairs) i noPair)) a b → joins (getD (pairsOf f) i (pairOf noPair)) a b ≡ r
 joined-there f i a b h e = ap (λ (p : Pair). joins p a b) (sym (pair-there f i h)) ∙ sym e
 
 -- ---- one pair after another

@@ -9,7 +9,8 @@ use Rattle.counting.specs.Sums.Loops.{count-turn}
 use Rattle.node.specs.declared.Node.{Node}
 use Rattle.node.specs.Node.{heardBy}
 
-module _ (v : Node) (a i total : ℕ) {heard : Bool} (h : heard ≡ heardBy v a (i + 1)) (so-far : total ≡ sum i (λ j. bit (not (heardBy v a (suc j))))) where
+module _ (v : Node) (a i total : ℕ)
+    {heard : Bool} (h : heard ≡ heardBy v a (i + 1)) (so-far : total ≡ sum i (λ j. bit (not (heardBy v a (suc j))))) where
   one : heard ≡ heardBy v a (suc i)
   one = rw add-one at h
 

@@ -37,7 +37,8 @@ past-map (f ∷ frames) (suc i) h = past-map frames i (omega arith)
 -- its bytes are those of the log
 pub frame-written : (v : Node) (k : ℕ) → written (frameAt v k) ≡ getD (logOf v) (k - 1) []
 unfolding frameAt
-frame-written v k = choose-ind (λ (f : Frame). written f ≡ getD (logOf v) (k - 1) []) (ltb (k - 1) (length (logOf v))) (λ t. there (ltb-true (k - 1) (length (logOf v)) t)) (λ t. past (ltb-false (k - 1) (length (logOf v)) t))
+frame-written v k = choose-ind (λ (f : Frame). written f ≡ getD (logOf v) (k - 1) []) (ltb (k - 1) (length (logOf v)))
+    (λ t. there (ltb-true (k - 1) (length (logOf v)) t)) (λ t. past (ltb-false (k - 1) (length (logOf v)) t))
   where
     kept : List Frame
     kept = take (v .count) (v .frames)
@@ -46,7 +47,9 @@ frame-written v k = choose-ind (λ (f : Frame). written f ≡ getD (logOf v) (k 
     counted = unfold logOf in length-map kept written
 
     there : k - 1 < length (logOf v) → written (getD (v .frames) (k - 1) noFrame) ≡ getD (logOf v) (k - 1) []
-    there h = unfold logOf written in ap written (sym (getD-take (v .count) (v .frames) (k - 1) noFrame (omega (arith, counted, length-take (v .count) (v .frames))))) ∙ sym (List·getD-map written kept (k - 1) noFrame)
+    there h = unfold logOf written in
+        ap written (sym (getD-take (v .count) (v .frames) (k - 1) noFrame (omega (arith, counted, length-take (v .count) (v .frames)))))
+        ∙ sym (List·getD-map written kept (k - 1) noFrame)
 
     past : length (logOf v) ≤ k - 1 → written emptyFrame ≡ getD (logOf v) (k - 1) []
     past h = unfold logOf written in sym (past-map kept (k - 1) (omega (arith, counted)))

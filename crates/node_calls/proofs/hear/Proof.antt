@@ -18,10 +18,18 @@ slice-aggregate-settle : tie.Need-slice-aggregate-settle
 slice-aggregate-settle c = search needs
 
 settle-requires : tie.Need-settle-requires
-settle-requires c κs = call-fits (c .before .before .before .before .before .before .before .args .node) _ (arrival-tidy _ _ _ _ (node-base (c .before .before .before .before .before .before .before .args .node) _ (c .before .before .before .before .before .before .before .good .0)) (λ i. omega (arith, c .before .before .before .before .before .before .shared-slice-known .given i))) _ refl (c .before .before .before .arrive .ensures .0) (c .before .before .before .arrive .ensures .1)
+settle-requires c κs = call-fits (c .before .before .before .before .before .before .before .args .node)
+    _ (arrival-tidy _ _ _ _ (node-base (c .before .before .before .before .before .before .before .args .node)
+    _ (c .before .before .before .before .before .before .before .good .0))
+    (λ i. omega (arith, c .before .before .before .before .before .before .shared-slice-known .given i)))
+    _ refl (c .before .before .before .arrive .ensures .0) (c .before .before .before .arrive .ensures .1)
 
 returns : tie.Need-returns
-returns c = call-told (c .before .before .before .before .before .before .before .before .args .node) _ (arrival-tidy _ _ _ _ (node-base (c .before .before .before .before .before .before .before .before .args .node) _ (c .before .before .before .before .before .before .before .before .good .0)) (λ i. omega (arith, c .before .before .before .before .before .before .before .shared-slice-known .given i))) _ refl (c .before .before .before .before .arrive .ensures .0) (c .before .before .before .before .arrive .ensures .1) (c .settle .ensures)
+returns c = call-told (c .before .before .before .before .before .before .before .before .args .node)
+    _ (arrival-tidy _ _ _ _ (node-base (c .before .before .before .before .before .before .before .before .args .node)
+    _ (c .before .before .before .before .before .before .before .before .good .0))
+    (λ i. omega (arith, c .before .before .before .before .before .before .before .shared-slice-known .given i))) _ refl
+    (c .before .before .before .before .arrive .ensures .0) (c .before .before .before .before .arrive .ensures .1) (c .settle .ensures)
 
 pub hear-spec : {M : Type 1} → statement M
 hear-spec =

@@ -21,7 +21,8 @@ hear-requires c κs = search needs
 
 returns : tie.Need-returns
 unfolding written
-returns c = let f = c .before .before .before .before .args .frame in rw (take-all (f .len) (f .bytes) (omega (arith, frame-sized f _ (c .before .before .before .before .good .1 .1 .0), c .before .before .if1 .taken))) (c .hear .ensures)
+returns c = let f = c .before .before .before .before .args .frame in rw (take-all (f .len) (f .bytes)
+    (omega (arith, frame-sized f _ (c .before .before .before .before .good .1 .1 .0), c .before .before .if1 .taken))) (c .hear .ensures)
 
 array-share-prefix-bytes : tie.Need-array-share-prefix-bytes
 array-share-prefix-bytes c = room c

@@ -16,10 +16,12 @@ slice-aggregate-settle : tie.Need-slice-aggregate-settle
 slice-aggregate-settle c = search needs
 
 settle-requires : tie.Need-settle-requires
-settle-requires c κs = call-fits (c .before .before .before .before .before .before .args .node) _ (start-tidy _ _) _ refl (c .before .before .before .start .ensures .0) (c .before .before .before .start .ensures .1)
+settle-requires c κs = call-fits (c .before .before .before .before .before .before .args .node)
+    _ (start-tidy _ _) _ refl (c .before .before .before .start .ensures .0) (c .before .before .before .start .ensures .1)
 
 returns : tie.Need-returns
-returns c = call-told (c .before .before .before .before .before .before .before .args .node) _ (start-tidy _ _) _ refl (c .before .before .before .before .start .ensures .0) (c .before .before .before .before .start .ensures .1) (c .settle .ensures)
+returns c = call-told (c .before .before .before .before .before .before .before .args .node) _ (start-tidy _ _) _ refl
+    (c .before .before .before .before .start .ensures .0) (c .before .before .before .before .start .ensures .1) (c .settle .ensures)
 
 pub start-spec : {M : Type 1} → statement M
 start-spec =

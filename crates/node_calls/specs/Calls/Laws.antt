@@ -1,5 +1,5 @@
--- A frame is copied out of the output byte by byte, and joins the broadcasts if there is one and there is room. The three frames of a call, taken from
--- the output by their lengths, are those that the call broadcast.
+-- A frame is copied out of the output byte by byte, and joins the broadcasts if there is one and there is room. The three frames of
+-- a call, taken from the output by their lengths, are those that the call broadcast.
 use Prim.Native.Nat.{ℕ, zero, suc, _+_, _≤_, _<_}
 use mathlib.Core.Path.{_≡_, refl, sym, ap, _∙_, subst}
 use mathlib.Core.List.{List, [], _∷_, _++_, map, append-assoc}
@@ -35,7 +35,8 @@ pub copied : (out : List ℕ) (from len i : ℕ) → i < len → len ≤ longest
 copied out from len i h short fits =
     let l : i < length (drop from out) = simp length-drop (omega arith) in
     pad-next longestFrame (take i (drop from out)) i (getD out (from + i) 0) (length-take-le i (drop from out) (omega arith)) (omega arith)
-    ∙ ap (padTo longestFrame) (sym (rw (add-one i) (take-suc (drop from out) i 0 l ∙ ap (λ (x : ℕ). take i (drop from out) ++ (x ∷ [])) (getD-drop from out i 0))))
+    ∙ ap (padTo longestFrame) (sym
+    (rw (add-one i) (take-suc (drop from out) i 0 l ∙ ap (λ (x : ℕ). take i (drop from out) ++ (x ∷ [])) (getD-drop from out i 0))))
 
 -- ---- one broadcast more
 pub part-length : (out : List ℕ) (from len : ℕ) → from + len ≤ length out → length (take len (drop from out)) ≡ len
@@ -49,11 +50,13 @@ pub kept-full : (v : Node) (bytes : List ℕ) → (length bytes ≡ 0 → ⊥) �
 unfolding keptOf joined
 kept-full v bytes e h = chosen-no _ (ne-eqb (length bytes) 0 e) (chosen-no _ (le-ltb (v .count) mostBroadcasts h) refl)
 
-pub kept-more : (v : Node) (bytes : List ℕ) → (length bytes ≡ 0 → ⊥) → v .count < mostBroadcasts → {frame : Frame} → frame ≡ storedFrame bytes
+pub kept-more : (v : Node) (bytes : List ℕ)
+    → (length bytes ≡ 0 → ⊥) → v .count < mostBroadcasts → {frame : Frame} → frame ≡ storedFrame bytes
     → record { base = v .base; count = v .count + 1; frames = set (v .frames) (v .count) frame; heard = v .heard } ≡ keptOf v bytes
 unfolding keptOf joined
 kept-more v bytes e h f = chosen-no _ (ne-eqb (length bytes) 0 e) (chosen-yes _ (lt-ltb (v .count) mostBroadcasts h)
-    (ap (λ (frame : Frame). record { base = v .base; count = v .count + 1; frames = set (v .frames) (v .count) frame; heard = v .heard }) f))
+    (ap (λ (frame : Frame).
+    record { base = v .base; count = v .count + 1; frames = set (v .frames) (v .count) frame; heard = v .heard }) f))
 
 -- ---- three frames in an output
 encoded-some : (m : Message) → length (encode m) ≡ 0 → ⊥
@@ -65,7 +68,8 @@ kept-encoded v m = choose-no _ _ (ne-eqb (length (encode m)) 0 (encoded-some m))
 
 -- the part p behind the front q
 part-at : (q p r rest : List ℕ) (x y : ℕ) → length q ≡ x → length p ≡ y → take y (drop x ((q ++ (p ++ r)) ++ rest)) ≡ p
-part-at q p r rest x y ex ey = rw (append-assoc q (p ++ r) rest, drop-at q ((p ++ r) ++ rest) x ex, append-assoc p r rest) (take-at p (r ++ rest) y ey)
+part-at q p r rest x y ex ey =
+    rw (append-assoc q (p ++ r) rest, drop-at q ((p ++ r) ++ rest) x ex, append-assoc p r rest) (take-at p (r ++ rest) y ey)
 
 parts : (v : Node) (b : Base) (p q r out : List ℕ)
     → threeKept v b (over (p ++ (q ++ (r ++ []))) out) (length p) (length q) (length r) ≡ keptOf (keptOf (keptOf (withBase v b) p) q) r
@@ -82,19 +86,23 @@ parts v b p q r out = rw (one, two, three)
     two = part-at p q (r ++ []) rest (length p) (length q) refl refl
 
     three : take (length r) (drop (length p + length q) ((p ++ (q ++ (r ++ []))) ++ rest)) ≡ r
-    three = ap (λ (l : List ℕ). take (length r) (drop (length p + length q) (l ++ rest))) (sym (append-assoc p q (r ++ []))) ∙ part-at (p ++ q) r [] rest (length p + length q) (length r) (length-append p q) refl
+    three = ap (λ (l : List ℕ). take (length r) (drop (length p + length q) (l ++ rest))) (sym (append-assoc p q (r ++ [])))
+        ∙ part-at (p ++ q) r [] rest (length p + length q) (length r) (length-append p q) refl
 
 no-more : (v : Node) → keptOf v [] ≡ v
 no-more v = sym (kept-none v [] refl)
 
 three-joined : (v : Node) (b : Base) (says : List Message) (out : List ℕ) → length says ≤ 3
-    → threeKept v b (over (encodeAll says) out) (getD (lengths says) 0 0) (getD (lengths says) 1 0) (getD (lengths says) 2 0) ≡ joinedAll (withBase v b) (map encode says)
+    → threeKept v b (over (encodeAll says) out) (getD (lengths says) 0 0) (getD (lengths says) 1 0) (getD (lengths says) 2 0)
+    ≡ joinedAll (withBase v b) (map encode says)
 unfolding encodeAll lengths joinedAll
 three-joined v b [] out h = parts v b [] [] [] out ∙ no-more _ ∙ no-more _ ∙ no-more _
 three-joined v b (a ∷ []) out h = parts v b (encode a) [] [] out ∙ no-more _ ∙ no-more _ ∙ kept-encoded _ a
-three-joined v b (a ∷ (c ∷ [])) out h = parts v b (encode a) (encode c) [] out ∙ no-more _ ∙ kept-encoded _ c ∙ ap (λ (w : Node). joined w (encode c)) (kept-encoded _ a)
+three-joined v b (a ∷ (c ∷ [])) out h = parts v b (encode a) (encode c) [] out
+    ∙ no-more _ ∙ kept-encoded _ c ∙ ap (λ (w : Node). joined w (encode c)) (kept-encoded _ a)
 three-joined v b (a ∷ (c ∷ (d ∷ []))) out h =
-    parts v b (encode a) (encode c) (encode d) out ∙ kept-encoded _ d ∙ ap (λ (w : Node). joined w (encode d)) (kept-encoded _ c ∙ ap (λ (w : Node). joined w (encode c)) (kept-encoded _ a))
+    parts v b (encode a) (encode c) (encode d) out ∙ kept-encoded _ d
+    ∙ ap (λ (w : Node). joined w (encode d)) (kept-encoded _ c ∙ ap (λ (w : Node). joined w (encode c)) (kept-encoded _ a))
 three-joined v b (a ∷ (c ∷ (d ∷ (e ∷ says)))) out h = absurd (omega arith)
 
 -- ---- a call
@@ -115,7 +123,12 @@ module _ (v : Node) (d : Done) (T : Tidy (v .base) d) (out : List ℕ) (wide : l
     one = short-at (d .says) 0 (T .small);
     two = short-at (d .says) 1 (T .small);
     three = short-at (d .says) 2 (T .small);
-    all = omega (arith, lengths-sum (d .says) (T .brief .few), T .brief .small, length-over (encodeAll (d .says)) out (omega (arith, T .brief .small)));
+    all = omega (
+      arith,
+      lengths-sum (d .says) (T .brief .few),
+      T .brief .small,
+      length-over (encodeAll (d .says)) out (omega (arith, T .brief .small)),
+    );
   }
 
   fitting-answer : (a : Answer) → Fitting (outcomeOf a (d .says)) (length (outputOf d out))
@@ -124,7 +137,8 @@ module _ (v : Node) (d : Done) (T : Tidy (v .base) d) (out : List ℕ) (wide : l
   fitting-answer discarded = fit
   fitting-answer (refused r) = tt
 
-  settled-answer : (a : Answer) → d .answer ≡ a → settledOf v (d .base) (outcomeOf a (d .says)) (outputOf d out) ≡ record { refusal = callRefusal a; node = nodeAfter v d }
+  settled-answer : (a : Answer) → d .answer ≡ a
+      → settledOf v (d .base) (outcomeOf a (d .says)) (outputOf d out) ≡ record { refusal = callRefusal a; node = nodeAfter v d }
   unfolding outcomeOf settledOf callRefusal nodeAfter outputOf
   settled-answer accepted e = ap (λ (w : Node). record { refusal = 0; node = w }) (three-joined v (d .base) (d .says) out (T .brief .few))
   settled-answer discarded e = ap (λ (w : Node). record { refusal = 0; node = w }) (three-joined v (d .base) (d .says) out (T .brief .few))
@@ -134,7 +148,8 @@ module _ (v : Node) (d : Done) (T : Tidy (v .base) d) (out : List ℕ) (wide : l
   unfolding stepOf
   call-fits e o = rw (e, o) (fitting-answer (d .answer))
 
-  pub call-told : {step : Step} {written : List ℕ} {t : Told} → step ≡ stepOf d → written ≡ outputOf d out → t ≡ settledOf v (step .base) (step .outcome) written → t ≡ told v d
+  pub call-told : {step : Step} {written : List ℕ} {t : Told}
+      → step ≡ stepOf d → written ≡ outputOf d out → t ≡ settledOf v (step .base) (step .outcome) written → t ≡ told v d
   unfolding stepOf told
   call-told e o t = t ∙ rw (e, o) (settled-answer (d .answer) refl)
 
@@ -156,10 +171,12 @@ module _ (v : Node) (b : Base) (out : List ℕ) {o : Outcome} where
   unfolding settledOf
   settled-refused e = rw e
 
-  pub settled-accepted : {x y z : ℕ} {w : Node} → o ≡ Accepted x y z → w ≡ threeKept v b out x y z → record { refusal = 0; node = w } ≡ settledOf v b o out
+  pub settled-accepted : {x y z : ℕ} {w : Node}
+      → o ≡ Accepted x y z → w ≡ threeKept v b out x y z → record { refusal = 0; node = w } ≡ settledOf v b o out
   unfolding settledOf
   settled-accepted e k = rw (e, k)
 
-  pub settled-discarded : {x y z : ℕ} {w : Node} → o ≡ Discarded x y z → w ≡ threeKept v b out x y z → record { refusal = 0; node = w } ≡ settledOf v b o out
+  pub settled-discarded : {x y z : ℕ} {w : Node}
+      → o ≡ Discarded x y z → w ≡ threeKept v b out x y z → record { refusal = 0; node = w } ≡ settledOf v b o out
   unfolding settledOf
   settled-discarded e k = rw (e, k)

@@ -1,5 +1,6 @@
--- What the calls of a base answer and broadcast fits where the program keeps it: three frames at most, each in its place, all of them in the output;
--- and a call that is turned down changes nothing. So what is taken from the output are the frames that the call broadcast.
+-- What the calls of a base answer and broadcast fits where the program keeps it: three frames at most, each in its place, all of
+-- them in the output; and a call that is turned down changes nothing. So what is taken from the output are the frames that the call
+-- broadcast.
 use Prim.Native.Nat.{ℕ, _+_, _≤_}
 use mathlib.Core.Path.{_≡_, refl}
 use mathlib.Core.List.{List, [], _∷_, _++_}
@@ -13,9 +14,39 @@ use Rattle.frame.specs.Encoding.Laws.{length-frame}
 use Rattle.protocol.specs.declared.Base.{Base}
 use Rattle.protocol.specs.Record.Memory.{Sized}
 use Rattle.protocol.specs.Sound.Laws.{record-passed}
-use Rattle.protocol.specs.Steps.{accepted, discarded, refused, Done, refuses, discards, accepts, withState, stops, begins, start, arrivalStep, arrival}
+use Rattle.protocol.specs.Steps.{
+  accepted,
+  discarded,
+  refused,
+  Done,
+  refuses,
+  discards,
+  accepts,
+  withState,
+  stops,
+  begins,
+  start,
+  arrivalStep,
+  arrival,
+}
 use Rattle.protocol.specs.Steps.Answers.{Unchanged}
-use Rattle.protocol.specs.Steps.Cases.{Takes, takesAnnounce, takesVerify, takesCorrect, takesAndVotes, takesVerifyFinal, Ends, discarding, runningOn, stopping, message-ends, begun, afterStart, start-step-cases, arrival-step-cases}
+use Rattle.protocol.specs.Steps.Cases.{
+  Takes,
+  takesAnnounce,
+  takesVerify,
+  takesCorrect,
+  takesAndVotes,
+  takesVerifyFinal,
+  Ends,
+  discarding,
+  runningOn,
+  stopping,
+  message-ends,
+  begun,
+  afterStart,
+  start-step-cases,
+  arrival-step-cases,
+}
 use Rattle.protocol.specs.Steps.Laws.{takes-rest}
 use Rattle.protocol.specs.Steps.Output.{start-brief, arrival-brief}
 use Rattle.protocol.specs.Steps.Refusals.{Heard, start-cases, arrival-cases, arrival-heard}
@@ -37,7 +68,8 @@ short-append : (a b : List Message) → AllShort a → AllShort b → AllShort (
 short-append [] b p q = q
 short-append (m ∷ a) b p q = (p .0, short-append a b (p .1) q)
 
-takes-short : {b : Base} {i : ℕ} {m : Message} {c : Base} {said : List Message} → length (idsOf m) ≤ mostBases → Takes b i m c said → AllShort said
+takes-short : {b : Base} {i : ℕ} {m : Message} {c : Base} {said : List Message}
+    → length (idsOf m) ≤ mostBases → Takes b i m c said → AllShort said
 unfolding idsOf
 takes-short h (takesAnnounce g p q r) = (short (verify g) (omega arith), tt)
 takes-short h (takesVerify g p q) = tt
@@ -68,7 +100,8 @@ unfolding accepts stops idsOf
 ends-stepped {b} n h discarding = discards-stepped b
 ends-stepped n h (runningOn T) = record { small = takes-short h T; answered = accepted-answer }
 ends-stepped n h (stopping {c = c} {said = said} {v = v} T D) = record {
-  small = short-append said (correctFinal v ∷ []) (takes-short h T) (short (correctFinal v) (decides-fits (omega (arith, takes-rest T .setting .n)) h D), tt);
+  small = short-append said (correctFinal v ∷ [])
+      (takes-short h T) (short (correctFinal v) (decides-fits (omega (arith, takes-rest T .setting .n)) h D), tt);
   answered = accepted-answer;
 }
 
@@ -88,7 +121,8 @@ arrival-stepped : (b : Base) (i : ℕ) (m : Message) → Heard b i m → Stepped
 arrival-stepped b i m H =
     let n = record-passed b (H .refusal) .net .most in
     let h = valid-fits b m (H .refusal) (H .valid) in
-    arrival-step-cases Stepped b i m (λ _. discards-stepped b) (λ _. after-start-stepped b _ (ends-stepped {b = begun b} (unfold withState in n) h (message-ends (begun b) i m))) (λ _. ends-stepped n h (message-ends b i m))
+    arrival-step-cases Stepped b i m (λ _. discards-stepped b) (λ _. after-start-stepped b _
+    (ends-stepped {b = begun b} (unfold withState in n) h (message-ends (begun b) i m))) (λ _. ends-stepped n h (message-ends b i m))
 
 -- ---- the calls
 pub record Tidy (b : Base) (d : Done) : Type 0 where
@@ -111,10 +145,12 @@ pub start-tidy : (b : Base) (room : ℕ) → Tidy b (start b room)
 start-tidy b room = record { brief = start-brief b room; small = E .small; down = E .down }
   where
     E : Ended b (start b room)
-    E = start-cases (Ended b) b room (λ r _. refuses-ended b r) (λ _. stepped-ended b _ (start-step-cases Stepped b (λ _. begins-stepped b) (λ _. discards-stepped b)))
+    E = start-cases (Ended b) b room (λ r _. refuses-ended b r)
+        (λ _. stepped-ended b _ (start-step-cases Stepped b (λ _. begins-stepped b) (λ _. discards-stepped b)))
 
 pub arrival-tidy : (b : Base) (link : ℕ) (burst : List ℕ) (room : ℕ) → Sized b → Below 256 burst → Tidy b (arrival b link burst room)
 arrival-tidy b link burst room S bytes = record { brief = arrival-brief b link burst room S bytes; small = E .small; down = E .down }
   where
     E : Ended b (arrival b link burst room)
-    E = arrival-cases (Ended b) b link burst room (λ r _. refuses-ended b r) (λ e. stepped-ended b _ (arrival-stepped b _ _ (arrival-heard b link burst room bytes e)))
+    E = arrival-cases (Ended b) b link burst
+        room (λ r _. refuses-ended b r) (λ e. stepped-ended b _ (arrival-stepped b _ _ (arrival-heard b link burst room bytes e)))

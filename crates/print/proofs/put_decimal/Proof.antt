@@ -14,7 +14,8 @@ use Rattle.print.proofs.put_decimal.Tie as tie
 
 -- the part that is lent is the whole end of the array
 text-is : (c : tie.After-decimal)
-    → take (20 - c .decimal .result .start) (drop (c .decimal .result .start) (c .decimal .result .bytes)) ≡ decimalText (c .before .before .args .v)
+    → take (20 - c .decimal .result .start) (drop (c .decimal .result .start) (c .decimal .result .bytes))
+    ≡ decimalText (c .before .before .args .v)
 text-is c =
     let d = c .decimal .result in
     let e = c .decimal .ensures in

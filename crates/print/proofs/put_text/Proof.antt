@@ -43,8 +43,13 @@ loop-less : tie.Need-loop-less Inv-loop μ-loop
 loop-less c = search needs
 
 loop-again : tie.Need-loop-again Inv-loop μ-loop
-loop-again c =
-    (omega arith, (simp length-set (c .before .before .loop .inv .1 .0), put-more _ _ (c .before .loop-test .taken) (c .before .before .loop .inv .1 .1)))
+loop-again c = (
+  omega arith,
+  (
+    simp length-set (c .before .before .loop .inv .1 .0),
+    put-more _ _ (c .before .loop-test .taken) (c .before .before .loop .inv .1 .1),
+  ),
+)
 
 add-result : tie.Need-add-result Inv-loop μ-loop
 add-result c = search needs

@@ -20,7 +20,8 @@ store-front bytes i x h =
 
 pub digits-begin : (v : ℕ) (bytes : List ℕ) → length bytes ≤ mostDigits → decimalText v ≡ lastDigits mostDigits v ++ drop mostDigits bytes
 unfolding decimalText
-digits-begin v bytes h = sym (ap (λ (l : List ℕ). lastDigits mostDigits v ++ l) (drop-of-length-le bytes h) ∙ append-nil (lastDigits mostDigits v))
+digits-begin v bytes h =
+    sym (ap (λ (l : List ℕ). lastDigits mostDigits v ++ l) (drop-of-length-le bytes h) ∙ append-nil (lastDigits mostDigits v))
 
 pub digits-last : (i rest d : ℕ) (bytes text : List ℕ) → 0 < i → i ≤ length bytes → rest < 10 → d ≡ 48 + rest % 10
     → text ≡ lastDigits i rest ++ drop i bytes → drop (i - 1) (set bytes (i - 1) d) ≡ text
@@ -38,7 +39,8 @@ unfolding lastDigits
 decimal-more zero rest d bytes text some h more e p = absurd (omega arith)
 decimal-more (suc i) rest d bytes text some h more e p =
     let one : suc i - 1 ≡ i = omega arith in
-    p ∙ ap (λ (l : List ℕ). l ++ drop (suc i) bytes) (choose-no _ _ (le-ltb rest 10 more)) ∙ append-assoc (lastDigits i (rest / 10)) ((48 + rest % 10) ∷ []) (drop (suc i) bytes)
+    p ∙ ap (λ (l : List ℕ). l ++ drop (suc i) bytes) (choose-no _ _ (le-ltb rest 10 more))
+    ∙ append-assoc (lastDigits i (rest / 10)) ((48 + rest % 10) ∷ []) (drop (suc i) bytes)
     ∙ ap (λ (x : ℕ). lastDigits i (rest / 10) ++ (x ∷ drop (suc i) bytes)) (sym e)
     ∙ ap (λ (l : List ℕ). lastDigits i (rest / 10) ++ l) (sym (store-front bytes i d h))
     ∙ ap (λ (k : ℕ). lastDigits k (rest / 10) ++ drop k (set bytes k d)) (sym one)
@@ -52,7 +54,8 @@ digits-all (suc i) rest bytes text h p = absurd (omega arith)
 few-last : (m k v : ℕ) → v < 10 ^ suc k → length (lastDigits m v) ≤ suc k
 unfolding lastDigits
 few-last zero k v h = omega arith
-few-last (suc m) zero v h = omega (arith, ap length (choose-yes ((48 + v) ∷ []) (lastDigits m (v / 10) ++ ((48 + v % 10) ∷ [])) (lt-ltb v 10 h)))
+few-last (suc m) zero v h =
+    omega (arith, ap length (choose-yes ((48 + v) ∷ []) (lastDigits m (v / 10) ++ ((48 + v % 10) ∷ [])) (lt-ltb v 10 h)))
 few-last (suc m) (suc k) v h =
     let less : v / 10 < 10 ^ suc k = omega (arith, pow-suc 10 (suc k)) in
     choose-ind (λ (l : List ℕ). length l ≤ suc (suc k)) (ltb v 10) (λ _. omega arith)

@@ -13,13 +13,15 @@ use Rattle.print.specs.Put.{textFits, textEnd, textOutput, Put}
 
 sets-append : (out : List ℕ) (at : ℕ) (t u : List ℕ) → sets out at (t ++ u) ≡ sets (sets out at t) (at + length t) u
 sets-append out at [] u = rw (add-zero at)
-sets-append out at (x ∷ t) u = sets-append (set out at x) (suc at) t u ∙ ap (λ (k : ℕ). sets (sets (set out at x) (suc at) t) k u) (omega arith)
+sets-append out at (x ∷ t) u = sets-append (set out at x) (suc at) t u
+    ∙ ap (λ (k : ℕ). sets (sets (set out at x) (suc at) t) k u) (omega arith)
 
 pub put-none : (out : List ℕ) (at : ℕ) → Put out at [] out at
 put-none out at = record { past = sym (add-zero at); is = refl }
 
 -- a text, and another behind it
-pub put-then : {out : List ℕ} {at : ℕ} {t o₁ : List ℕ} {p : ℕ} {u o₂ : List ℕ} {q : ℕ} → Put out at t o₁ p → Put o₁ p u o₂ q → Put out at (t ++ u) o₂ q
+pub put-then : {out : List ℕ} {at : ℕ} {t o₁ : List ℕ} {p : ℕ} {u o₂ : List ℕ} {q : ℕ}
+    → Put out at t o₁ p → Put o₁ p u o₂ q → Put out at (t ++ u) o₂ q
 put-then {out} {at} {t} {o₁} {p} {u} {o₂} {q} a b = record {
   past = omega (arith, length-append t u, a .past, b .past);
   is = b .is ∙ ap (λ (l : List ℕ). sets l p u) (a .is) ∙ ap (λ (k : ℕ). sets (sets out at t) k u) (a .past) ∙ sym (sets-append out at t u);
@@ -35,7 +37,8 @@ put-more {out} {at} w j {o₁} h p =
     let one : Put o₁ (at + j) (getD w j 0 ∷ []) (set o₁ (at + j) (getD w j 0)) (at + (j + 1)) = record { past = omega arith; is = refl } in
     rw (add-one j, take-suc w j 0) (rw add-one at (put-then p one))
 
-pub put-all : {out : List ℕ} {at : ℕ} (w : List ℕ) (j : ℕ) {o₁ : List ℕ} {end : ℕ} → length w ≤ j → Put out at (take j w) o₁ end → Put out at w o₁ end
+pub put-all : {out : List ℕ} {at : ℕ} (w : List ℕ) (j : ℕ) {o₁ : List ℕ} {end : ℕ}
+    → length w ≤ j → Put out at (take j w) o₁ end → Put out at w o₁ end
 put-all w j h p = rw take-all at p
 
 -- ---- where there is room
@@ -49,12 +52,14 @@ pub fits-put : {out : List ℕ} {at : ℕ} {text after : List ℕ} {end : ℕ} �
 unfolding textEnd textOutput textFits
 fits-put room p = let f = le-leb _ _ room in (p .past ∙ sym (choose-yes _ _ f), p .is ∙ sym (choose-yes _ _ f))
 
-pub not-put : (out : List ℕ) (at : ℕ) (text : List ℕ) → length out < at + length text → (at ≡ textEnd out at text) × (out ≡ textOutput out at text)
+pub not-put : (out : List ℕ) (at : ℕ) (text : List ℕ)
+    → length out < at + length text → (at ≡ textEnd out at text) × (out ≡ textOutput out at text)
 unfolding textEnd textOutput textFits
 not-put out at text short = let f = lt-leb _ _ short in (sym (choose-no _ _ f), sym (choose-no _ _ f))
 
 -- a text at the front, and the rest as it was
-pub put-front : {out text after : List ℕ} {end : ℕ} → length text ≤ length out → Put out 0 text after end → (end ≡ length text) × (after ≡ text ++ drop (length text) out)
+pub put-front : {out text after : List ℕ} {end : ℕ}
+    → length text ≤ length out → Put out 0 text after end → (end ≡ length text) × (after ≡ text ++ drop (length text) out)
 put-front {out} {text} room p =
     let z : 0 + length text ≡ length text = omega arith in
     (p .past ∙ z, p .is ∙ sets-eq text out 0 (omega arith) ∙ ap (λ (k : ℕ). text ++ drop k out) z)
@@ -64,7 +69,8 @@ pub put-begin : (out : List ℕ) (at : ℕ) (w : List ℕ) → Put out at (take 
 put-begin out at w = record { past = refl; is = refl }
 
 -- a text more, where there is room for all
-pub put-next : {out : List ℕ} {at : ℕ} {t o₁ : List ℕ} {p : ℕ} (u : List ℕ) {o₂ : List ℕ} {q : ℕ} → Put out at t o₁ p → p + length u ≤ length out
+pub put-next : {out : List ℕ} {at : ℕ} {t o₁ : List ℕ} {p : ℕ} (u : List ℕ) {o₂ : List ℕ} {q : ℕ}
+    → Put out at t o₁ p → p + length u ≤ length out
     → q ≡ textEnd o₁ p u → o₂ ≡ textOutput o₁ p u → Put out at (t ++ u) o₂ q
 put-next {out} {at} {t} {o₁} {p} u a room e o =
     put-then a (put-fits (omega (arith, ap length (a .is) ∙ length-sets out at t)) e o)
@@ -74,5 +80,6 @@ pub text-length : {out : List ℕ} {at : ℕ} {t o₁ : List ℕ} {p : ℕ} → 
 text-length {out} {at} {t} a = ap length (a .is) ∙ length-sets out at t
 
 -- how far a text more takes the place
-pub step : {out : List ℕ} {at : ℕ} {t o₁ : List ℕ} {p : ℕ} (u : List ℕ) {o₂ : List ℕ} {q : ℕ} → Put out at t o₁ p → Put out at (t ++ u) o₂ q → q ≡ p + length u
+pub step : {out : List ℕ} {at : ℕ} {t o₁ : List ℕ} {p : ℕ} (u : List ℕ) {o₂ : List ℕ} {q : ℕ}
+    → Put out at t o₁ p → Put out at (t ++ u) o₂ q → q ≡ p + length u
 step {out} {at} {t} u a b = omega (arith, a .past, b .past, length-append t u)

@@ -21,18 +21,24 @@ refuse-requires c κs = search needs
 
 returns : tie.Need-returns
 unfolding wholePlay
-returns c = chosen-yes _ (lt-ltb _ _ (c .before .before .if1 .taken)) (c .refuse .ensures ∙ ap (refusedPlay 13) (c .before .unread .ensures))
+returns c =
+    chosen-yes _ (lt-ltb _ _ (c .before .before .if1 .taken)) (c .refuse .ensures ∙ ap (refusedPlay 13) (c .before .unread .ensures))
 
 play-header-requires : tie.Need-play-header-requires
 play-header-requires c κs = search needs
 
 play-history-requires : tie.Need-play-history-requires
-play-history-requires c κs = (c .play-header .ensures .1, subst (λ (p : Play). p .refusal ≡ 0 → p .net .n ≤ mostBases) (sym (c .play-header .ensures .0)) (header-few (now (c .before .before .before .args .schedule))))
+play-history-requires c κs = (
+  c .play-header .ensures .1,
+  subst (λ (p : Play). p .refusal ≡ 0 → p .net .n ≤ mostBases)
+      (sym (c .play-header .ensures .0)) (header-few (now (c .before .before .before .args .schedule))),
+)
 
 returns-2 : tie.Need-returns-2
 unfolding wholePlay
 returns-2 c = let s = now (c .before .before .before .before .args .schedule) in
-    chosen-no _ (le-ltb _ _ (c .before .before .if1 .left)) (c .play-history .ensures ∙ ap (λ (p : Play). repeatPlay (length s) (nextPlay s) p) (c .before .play-header .ensures .0))
+    chosen-no _ (le-ltb _ _ (c .before .before .if1 .left))
+    (c .play-history .ensures ∙ ap (λ (p : Play). repeatPlay (length s) (nextPlay s) p) (c .before .play-header .ensures .0))
 
 pub play-whole-spec : {M : Type 1} → statement M
 play-whole-spec =

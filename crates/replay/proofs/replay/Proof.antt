@@ -24,8 +24,10 @@ play-whole-requires : tie.Need-play-whole-requires
 play-whole-requires c κs = search needs
 
 put-report-requires : tie.Need-put-report-requires
-put-report-requires c κs = let s = now (c .before .before .before .before .before .args .schedule) in
-    (omega (arith, c .before .before .if1 .left), subst (λ (p : Play). p .refusal ≡ 0 → p .net .n ≤ mostBases) (sym (c .before .play-whole .ensures)) (play-few s))
+put-report-requires c κs = let s = now (c .before .before .before .before .before .args .schedule) in (
+  omega (arith, c .before .before .if1 .left),
+  subst (λ (p : Play). p .refusal ≡ 0 → p .net .n ≤ mostBases) (sym (c .before .play-whole .ensures)) (play-few s),
+)
 
 same-length : tie.Need-same-length
 same-length c = search needs
@@ -33,7 +35,8 @@ same-length c = search needs
 returns-2 : tie.Need-returns-2
 unfolding replayLength replayOutput over
 returns-2 c = let s = now (c .before .before .before .before .before .before .before .before .args .schedule) in
-    let P = put-as (ap reportPlay (c .before .before .before .before .play-whole .ensures) ∙ report-is s) (c .before .before .put-report .ensures .0) in
+    let P = put-as (ap reportPlay (c .before .before .before .before .play-whole .ensures) ∙ report-is s)
+    (c .before .before .put-report .ensures .0) in
     let e = le-ltb _ _ (c .before .before .before .before .before .if1 .left) in
     let most = c .before .before .put-report .ensures .1 in
     let f = put-front (omega (arith, P .past, most, c .before .before .before .before .before .if1 .left)) P in

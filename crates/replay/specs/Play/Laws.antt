@@ -45,7 +45,8 @@ use Rattle.replay.specs.Play.{
 }
 
 -- ---- which way
-pub judged-refused : {r k : ℕ} {p : Play} (before after : Play) → r ≡ k → (r ≡ 0 → ⊥) → p ≡ refusedPlay r before → p ≡ judgedPlay k before after
+pub judged-refused : {r k : ℕ} {p : Play} (before after : Play)
+    → r ≡ k → (r ≡ 0 → ⊥) → p ≡ refusedPlay r before → p ≡ judgedPlay k before after
 unfolding judgedPlay
 judged-refused {r} {k} {p} before after e n q =
     q ∙ ap (λ (j : ℕ). refusedPlay j before) e ∙ sym (choose-no after (refusedPlay k before) (ne-eqb k 0 (λ z. n (e ∙ z))))
@@ -63,13 +64,16 @@ unfolding unlessRefusedPlay
 unless-onward p {q} {next} z e = e ∙ sym (choose-yes next p (eq-eqb (p .refusal) 0 z))
 
 -- ---- again and again
-pub repeat-more : (k : ℕ) (f : Play → Play) (first : Play) {p q : Play} → p ≡ repeatPlay k f first → q ≡ f p → q ≡ repeatPlay (k + 1) f first
+pub repeat-more : (k : ℕ) (f : Play → Play) (first : Play) {p q : Play}
+    → p ≡ repeatPlay k f first → q ≡ f p → q ≡ repeatPlay (k + 1) f first
 unfolding repeatPlay
 repeat-more k f first e q = q ∙ ap f e ∙ ap (λ (j : ℕ). repeatPlay j f first) (sym (add-one k))
 
-pub ids-more : (s : List ℕ) (b : ℕ) (first : Play) {p q : Play} → p ≡ idPlays s b first → q ≡ idPlay s (b + 1) p → q ≡ idPlays s (b + 1) first
+pub ids-more : (s : List ℕ) (b : ℕ) (first : Play) {p q : Play}
+    → p ≡ idPlays s b first → q ≡ idPlay s (b + 1) p → q ≡ idPlays s (b + 1) first
 unfolding idPlays
-ids-more s b first e q = q ∙ ap (idPlay s (b + 1)) e ∙ ap (λ (j : ℕ). idPlay s j (idPlays s b first)) (add-one b) ∙ ap (λ (j : ℕ). idPlays s j first) (sym (add-one b))
+ids-more s b first e q = q ∙ ap (idPlay s (b + 1)) e
+    ∙ ap (λ (j : ℕ). idPlay s j (idPlays s b first)) (add-one b) ∙ ap (λ (j : ℕ). idPlays s j first) (sym (add-one b))
 
 pub repeat-none : (f : Play → Play) (first : Play) → first ≡ repeatPlay 0 f first
 unfolding repeatPlay
@@ -88,12 +92,15 @@ stays f (suc j) p e = ap f (stays f j p e) ∙ e
 repeat-sum : (j k : ℕ) (f : Play → Play) (first : Play) → repeatPlay (j + k) f first ≡ repeatPlay j f (repeatPlay k f first)
 unfolding repeatPlay
 repeat-sum zero k f first = let z : 0 + k ≡ k = omega arith in ap (λ (i : ℕ). repeatPlay i f first) z
-repeat-sum (suc j) k f first = let z : suc j + k ≡ suc (j + k) = omega arith in ap (λ (i : ℕ). repeatPlay i f first) z ∙ ap f (repeat-sum j k f first)
+repeat-sum (suc j) k f first = let z : suc j + k ≡ suc (j + k) = omega arith in
+    ap (λ (i : ℕ). repeatPlay i f first) z ∙ ap f (repeat-sum j k f first)
 
-pub repeat-done : (m k : ℕ) (f : Play → Play) (first : Play) {p : Play} → k ≤ m → p ≡ repeatPlay k f first → f p ≡ p → p ≡ repeatPlay m f first
+pub repeat-done : (m k : ℕ) (f : Play → Play) (first : Play) {p : Play}
+    → k ≤ m → p ≡ repeatPlay k f first → f p ≡ p → p ≡ repeatPlay m f first
 repeat-done m k f first {p} l e done =
     let d : (m - k) + k ≡ m = omega arith in
-    sym (sym (ap (λ (i : ℕ). repeatPlay i f first) d) ∙ repeat-sum (m - k) k f first ∙ ap (repeatPlay (m - k) f) (sym e) ∙ stays f (m - k) p done)
+    sym (sym (ap (λ (i : ℕ). repeatPlay i f first) d)
+    ∙ repeat-sum (m - k) k f first ∙ ap (repeatPlay (m - k) f) (sym e) ∙ stays f (m - k) p done)
 
 pub next-refused : (s : List ℕ) (p : Play) → (p .refusal ≡ 0 → ⊥) → nextPlay s p ≡ p
 unfolding nextPlay unlessRefusedPlay
@@ -108,14 +115,16 @@ line-next : (s : List ℕ) (p : Play) → p .refusal ≡ 0 → p .at < length s 
 unfolding nextPlay unlessRefusedPlay
 line-next s p z h = choose-yes _ _ (eq-eqb (p .refusal) 0 z) ∙ choose-no _ _ (lt-leb (length s) (p .at) h)
 
-pub line-refused : (s : List ℕ) (p : Play) (x : Line) (m : Moved) → p .refusal ≡ 0 → p .at < length s → x ≡ eventLine (p .net .n) s (p .at) → m ≡ happened s (p .net) x
+pub line-refused : (s : List ℕ) (p : Play) (x : Line) (m : Moved)
+    → p .refusal ≡ 0 → p .at < length s → x ≡ eventLine (p .net .n) s (p .at) → m ≡ happened s (p .net) x
     → (m .refusal ≡ 0 → ⊥) → refusedPlay (m .refusal) p ≡ nextPlay s p
 unfolding linePlay advanced
 line-refused s p x m z h ex em n =
     judged-refused p (onwardPlay p (m .net) (nextOf x)) refl n refl ∙ ap (λ (y : Moved). advanced p y (nextOf x)) em
     ∙ ap (λ (y : Line). advanced p (happened s (p .net) y) (nextOf y)) ex ∙ sym (line-next s p z h)
 
-pub line-onward : (s : List ℕ) (p : Play) (x : Line) (m : Moved) → p .refusal ≡ 0 → p .at < length s → x ≡ eventLine (p .net .n) s (p .at) → m ≡ happened s (p .net) x
+pub line-onward : (s : List ℕ) (p : Play) (x : Line) (m : Moved)
+    → p .refusal ≡ 0 → p .at < length s → x ≡ eventLine (p .net .n) s (p .at) → m ≡ happened s (p .net) x
     → m .refusal ≡ 0 → onwardPlay p (m .net) (nextOf x) ≡ nextPlay s p
 unfolding linePlay advanced
 line-onward s p x m z h ex em e =
@@ -123,9 +132,11 @@ line-onward s p x m z h ex em e =
     ∙ ap (λ (y : Line). advanced p (happened s (p .net) y) (nextOf y)) ex ∙ sym (line-next s p z h)
 
 -- a refused play changes no more
-pub next-again : (s : List ℕ) (k : ℕ) (first p : Play) {q : Play} → p ≡ repeatPlay k (nextPlay s) first → q ≡ nextPlay s p → (q .refusal ≡ 0 → ⊥) → k < length s
+pub next-again : (s : List ℕ) (k : ℕ) (first p : Play) {q : Play}
+    → p ≡ repeatPlay k (nextPlay s) first → q ≡ nextPlay s p → (q .refusal ≡ 0 → ⊥) → k < length s
     → q ≡ repeatPlay (length s) (nextPlay s) first
-next-again s k first p {q} e f n h = repeat-done (length s) (k + 1) (nextPlay s) first (omega arith) (repeat-more k (nextPlay s) first e f) (next-refused s q n)
+next-again s k first p {q} e f n h =
+    repeat-done (length s) (k + 1) (nextPlay s) first (omega arith) (repeat-more k (nextPlay s) first e f) (next-refused s q n)
 
 -- ---- line numbers
 abbrev Near : ℕ → Play → Type 0
@@ -154,23 +165,28 @@ net-near s = go (netLine s 0)
     one : unreadPlay .line ≤ 1
     one = unfold unreadPlay in omega arith
 
-    go : (x : Two) → Near 1 (afterTwo x (refusedPlay 13 unreadPlay) (λ n t next. judgedPlay (sizeRefusal n t) unreadPlay (onwardPlay unreadPlay (madeNet n t) next)))
+    go : (x : Two) → Near 1 (afterTwo x (refusedPlay 13 unreadPlay)
+        (λ n t next. judgedPlay (sizeRefusal n t) unreadPlay (onwardPlay unreadPlay (madeNet n t) next)))
     go Neither = refused-near 1 13 unreadPlay one
-    go (Both n t next) = judged-near 1 (sizeRefusal n t) unreadPlay (onwardPlay unreadPlay (madeNet n t) next) one (onward-near 1 unreadPlay (madeNet n t) next one)
+    go (Both n t next) = judged-near 1
+        (sizeRefusal n t) unreadPlay (onwardPlay unreadPlay (madeNet n t) next) one (onward-near 1 unreadPlay (madeNet n t) next one)
 
 pub id-near : (s : List ℕ) (b m : ℕ) (p : Play) → p .line ≤ m → idPlay s b p .line ≤ m + 1
 unfolding idPlay
 id-near s b m p h = unless-near m p _ h (go (idLine b s (p .at)))
   where
-    go : (x : Number) → Near m (afterNumber x (refusedPlay 13 p) (λ v next. judgedPlay (idRefusal (shown (p .net)) v) p (onwardPlay p (namedNet (p .net) b v) next)))
+    go : (x : Number) → Near m (afterNumber
+        x (refusedPlay 13 p) (λ v next. judgedPlay (idRefusal (shown (p .net)) v) p (onwardPlay p (namedNet (p .net) b v) next)))
     go Bad = refused-near m 13 p h
-    go (Value v next) = judged-near m (idRefusal (shown (p .net)) v) p (onwardPlay p (namedNet (p .net) b v) next) h (onward-near m p (namedNet (p .net) b v) next h)
+    go (Value v next) = judged-near m (idRefusal (shown (p .net)) v)
+        p (onwardPlay p (namedNet (p .net) b v) next) h (onward-near m p (namedNet (p .net) b v) next h)
 
 marked-near : (m : ℕ) (p : Play) (a b next : ℕ) → p .line ≤ m → Near m (markedPlay p a b next)
 unfolding markedPlay
 marked-near m p a b next h =
     choose-ind (Near m) (not (good (faultyOf (p .net)) a b)) (λ _. refused-near m 13 p h)
-    (λ _. judged-near m (faultyRefusal (p .net .t) (faultyOf (p .net))) p (onwardPlay p (withFaulty (p .net) a b) next) h (onward-near m p (withFaulty (p .net) a b) next h))
+    (λ _. judged-near m (faultyRefusal (p .net .t) (faultyOf (p .net)))
+    p (onwardPlay p (withFaulty (p .net) a b) next) h (onward-near m p (withFaulty (p .net) a b) next h))
 
 pub faulty-near : (s : List ℕ) (m : ℕ) (p : Play) → p .line ≤ m → faultyPlay s p .line ≤ m + 1
 unfolding faultyPlay

@@ -1,4 +1,5 @@
--- The net after a header that is not turned down: n bases, t and at most t faulty links, idle records whose identifiers are above zero and different.
+-- The net after a header that is not turned down: n bases, t and at most t faulty links, idle records whose identifiers are above
+-- zero and different.
 use Prim.Native.Nat.{ℕ, zero, suc, _^_, _≤_, _<_}
 use mathlib.Core.Path.{_≡_, refl, sym, ap, _∙_, subst}
 use mathlib.Core.Bool.{Bool, true, false, not}
@@ -52,15 +53,20 @@ sized-begins n t next size limit = record {
   limit = limit;
   few-faulty = omega arith;
   id = λ b. 0;
-  named = record { range = λ b B. absurd (omega (arith, B .least, B .most)); different = λ a b A B e. absurd (omega (arith, A .least, A .most)) };
+  named = record {
+    range = λ b B. absurd (omega (arith, B .least, B .most));
+    different = λ a b A B e. absurd (omega (arith, A .least, A .most));
+  };
   net = refl;
 }
 
 pub net-begins : (s : List ℕ) → Unrefused (Begins 0) (netStep s unread)
 unfolding netStep
 net-begins s =
-    two-ind (Unrefused (Begins 0)) (netLine s (unread .at)) (TwoTold (unread .at)) (net-told s (unread .at)) (refuse-owes (Begins 0) 13 unread (λ e. omega arith))
-    (λ n t next told. judged-owes (Begins 0) (sizeRefusal n t) unread (withSize n t (onward next unread)) (λ e _. let p = size-passed n t e in sized-begins n t next (p .0) (p .1)))
+    two-ind (Unrefused (Begins 0)) (netLine s (unread .at))
+    (TwoTold (unread .at)) (net-told s (unread .at)) (refuse-owes (Begins 0) 13 unread (λ e. omega arith))
+    (λ n t next told. judged-owes (Begins 0) (sizeRefusal n t)
+    unread (withSize n t (onward next unread)) (λ e _. let p = size-passed n t e in sized-begins n t next (p .0) (p .1)))
 
 -- ---- `id b v`
 -- none of the bases 1 to k has the identifier v
@@ -71,7 +77,8 @@ free (suc k) W v e b B q = cases (eqb b (suc k)) refl (λ C. free k W v (or-fals
   where
     cases : (x : Bool) → eqb b (suc k) ≡ x → (BaseOf k b → ⊥) → ⊥
     cases true y rest =
-        eqb-false (W .base (suc k) .own) v (or-false (eqb (W .base (suc k) .own) v) (owned k W v) e .0) (subst (λ (z : ℕ). W .base z .own ≡ v) (eqb-true b (suc k) y) q)
+        eqb-false (W .base (suc k) .own) v (or-false (eqb (W .base (suc k) .own) v) (owned k W v) e .0)
+        (subst (λ (z : ℕ). W .base z .own ≡ v) (eqb-true b (suc k) y) q)
     cases false y rest = rest (record { least = B .least; most = omega (arith, B .most, eqb-false b (suc k) y) })
 
 -- one entry replaced
@@ -84,7 +91,8 @@ unfolding replaced
 replaced-there x v id b e = choose-no v (id b) (ne-eqb b x e)
 
 -- one identifier more
-named-more : (k v : ℕ) (id : ℕ → ℕ) → Named k id → 1 ≤ v → v < 2 ^ 32 → ((b : ℕ) → BaseOf k b → id b ≡ v → ⊥) → Named (suc k) (replaced (suc k) v id)
+named-more : (k v : ℕ) (id : ℕ → ℕ)
+    → Named k id → 1 ≤ v → v < 2 ^ 32 → ((b : ℕ) → BaseOf k b → id b ≡ v → ⊥) → Named (suc k) (replaced (suc k) v id)
 named-more k v id N some word new = record { range = range; different = different }
   where
     here : (b : ℕ) → b ≡ suc k → replaced (suc k) v id b ≡ v
@@ -101,31 +109,42 @@ named-more k v id N some word new = record { range = range; different = differen
       where
         cases : (x : Bool) → eqb b (suc k) ≡ x → (1 ≤ replaced (suc k) v id b) × (replaced (suc k) v id b < 2 ^ 32)
         cases true y = subst (λ (z : ℕ). (1 ≤ z) × (z < 2 ^ 32)) (sym (here b (eqb-true b (suc k) y))) (some, word)
-        cases false y = let e = eqb-false b (suc k) y in subst (λ (z : ℕ). (1 ≤ z) × (z < 2 ^ 32)) (sym (there b e)) (N .range b (below b B e))
+        cases false y = let e = eqb-false b (suc k) y in
+            subst (λ (z : ℕ). (1 ≤ z) × (z < 2 ^ 32)) (sym (there b e)) (N .range b (below b B e))
 
     different : (a b : ℕ) → BaseOf (suc k) a → BaseOf (suc k) b → replaced (suc k) v id a ≡ replaced (suc k) v id b → a ≡ b
     different a b A B q = cases (eqb a (suc k)) refl (eqb b (suc k)) refl
       where
         cases : (x : Bool) → eqb a (suc k) ≡ x → (y : Bool) → eqb b (suc k) ≡ y → a ≡ b
         cases true e true f = eqb-true a (suc k) e ∙ sym (eqb-true b (suc k) f)
-        cases true e false f = absurd (new b (below b B (eqb-false b (suc k) f)) (sym (there b (eqb-false b (suc k) f)) ∙ sym q ∙ here a (eqb-true a (suc k) e)))
-        cases false e true f = absurd (new a (below a A (eqb-false a (suc k) e)) (sym (there a (eqb-false a (suc k) e)) ∙ q ∙ here b (eqb-true b (suc k) f)))
+        cases true e false f = absurd
+            (new b (below b B (eqb-false b (suc k) f)) (sym (there b (eqb-false b (suc k) f)) ∙ sym q ∙ here a (eqb-true a (suc k) e)))
+        cases false e true f = absurd
+            (new a (below a A (eqb-false a (suc k) e)) (sym (there a (eqb-false a (suc k) e)) ∙ q ∙ here b (eqb-true b (suc k) f)))
         cases false e false f =
-            N .different a b (below a A (eqb-false a (suc k) e)) (below b B (eqb-false b (suc k) f)) (sym (there a (eqb-false a (suc k) e)) ∙ q ∙ there b (eqb-false b (suc k) f))
+            N .different a b (below a A (eqb-false a (suc k) e))
+            (below b B (eqb-false b (suc k) f)) (sym (there a (eqb-false a (suc k) e)) ∙ q ∙ there b (eqb-false b (suc k) f))
 
 -- the idle records with one identifier more
-pub idle-replaced : (n t b v : ℕ) (id : ℕ → ℕ) (y : ℕ) → replaced b (idleBase n t v) (λ x. idleBase n t (id x)) y ≡ idleBase n t (replaced b v id y)
+pub idle-replaced : (n t b v : ℕ) (id : ℕ → ℕ) (y : ℕ)
+    → replaced b (idleBase n t v) (λ x. idleBase n t (id x)) y ≡ idleBase n t (replaced b v id y)
 unfolding replaced
 idle-replaced n t b v id y =
-    choose-ind (λ (z : ℕ). choose (eqb y b) (idleBase n t v) (idleBase n t (id y)) ≡ idleBase n t z) (eqb y b) (λ e. choose-yes _ _ e) (λ e. choose-no _ _ e)
+    choose-ind (λ (z : ℕ). choose (eqb y b) (idleBase n t v) (idleBase n t (id y)) ≡ idleBase n t z)
+    (eqb y b) (λ e. choose-yes _ _ e) (λ e. choose-no _ _ e)
 
 named-idle : (n t b v : ℕ) (id : ℕ → ℕ)
-    → _≡_ {A = Net} (record { base = replaced b (idleBase n t v) (idleNet n t id .base); log = idleNet n t id .log; carried = idleNet n t id .carried }) (idleNet n t (replaced b v id))
+    → _≡_ {A = Net} (record {
+      base = replaced b (idleBase n t v) (idleNet n t id .base);
+      log = idleNet n t id .log;
+      carried = idleNet n t id .carried;
+    }) (idleNet n t (replaced b v id))
 unfolding idleNet
 named-idle n t b v id = λ i. record { base = λ y. idle-replaced n t b v id y i; log = λ y. []; carried = λ x y z. false }
 
 pub named-net : (n t b v : ℕ) (id : ℕ → ℕ) (W : Net) → W ≡ idleNet n t id
-    → _≡_ {A = Net} (record { base = replaced b (idleBase n t v) (W .base); log = W .log; carried = W .carried }) (idleNet n t (replaced b v id))
+    → _≡_ {A = Net} (record { base = replaced b (idleBase n t v) (W .base); log = W .log; carried = W .carried })
+    (idleNet n t (replaced b v id))
 named-net n t b v id W e =
     ap (λ (x : Net). record { base = replaced b (idleBase n t v) (x .base); log = x .log; carried = x .carried }) e ∙ named-idle n t b v id
 
@@ -139,14 +158,17 @@ id-passed W v e =
     let p = passed (eqb v 0) 2 (choose (owned mostBases W v) 14 0) e in
     (omega (arith, eqb-false v 0 (p .0)), passed (owned mostBases W v) 13 0 (p .1) .0)
 
-named-begins : (m k v next : ℕ) (st : Story) → suc k ≤ m → v < 2 ^ 32 → idRefusal (st .net) v ≡ 0 → Given m k st → Given m (suc k) (withId (suc k) v (onward next st))
+named-begins : (m k v next : ℕ) (st : Story)
+    → suc k ≤ m → v < 2 ^ 32 → idRefusal (st .net) v ≡ 0 → Given m k st → Given m (suc k) (withId (suc k) v (onward next st))
 unfolding withId onward
 named-begins m k v next st l word e g =
     let B = g .0 in
     let p = id-passed (st .net) v e in
-    let own : (b : ℕ) → st .net .base b .own ≡ B .id b = λ b. ap (λ (W : Net). W .base b .own) (B .net) ∙ (unfold idleNet idleBase in refl) in
+    let own : (b : ℕ) → st .net .base b .own ≡ B .id b = λ b. ap (λ (W : Net). W .base b .own) (B .net)
+    ∙ (unfold idleNet idleBase in refl) in
     let new : (b : ℕ) → BaseOf k b → B .id b ≡ v → ⊥ =
-    λ b C q. free mostBases (st .net) v (p .1) b (record { least = C .least; most = omega (arith, C .most, g .1, B .size .most) }) (own b ∙ q) in (
+    λ b C q. free mostBases (st .net)
+    v (p .1) b (record { least = C .least; most = omega (arith, C .most, g .1, B .size .most) }) (own b ∙ q) in (
       record {
         size = B .size;
         limit = B .limit;
@@ -162,7 +184,8 @@ id-begins : (s : List ℕ) (m k : ℕ) (st : Story) → suc k ≤ m → Unrefuse
 unfolding idStep
 id-begins s m k st l before =
     unless-owes (Given m (suc k)) st _ (λ none.
-    number-ind (Unrefused (Given m (suc k))) (idLine (suc k) s (st .at)) (Field (st .at)) (id-told (suc k) s (st .at)) (refuse-owes (Given m (suc k)) 13 st (λ e. omega arith))
+    number-ind (Unrefused (Given m (suc k))) (idLine (suc k) s (st .at))
+    (Field (st .at)) (id-told (suc k) s (st .at)) (refuse-owes (Given m (suc k)) 13 st (λ e. omega arith))
     (λ v next f. judged-owes (Given m (suc k)) (idRefusal (st .net) v) st (withId (suc k) v (onward next st))
     (λ e _. named-begins m k v next st l (omega (arith, f .0)) e (before none))))
 
@@ -197,7 +220,8 @@ faulty-begins s st before =
     unless-owes Whole st _ (λ none.
     two-ind (Unrefused Whole) (faultyLine (st .n) s (st .at)) (FaultyTold (st .n) (st .at)) (faulty-told (st .n) s (st .at)) before
     (λ a b next f. choose-ind (Unrefused Whole) (not (good (st .faulty) a b)) (λ _. refuse-owes Whole 13 st (λ e. omega arith))
-    (λ _. judged-owes Whole (faultyRefusal (st .t) (st .faulty)) st (withFaulty a b (onward next st)) (λ e _. marked-begins a b next st e (before none)))))
+    (λ _. judged-owes Whole (faultyRefusal (st .t) (st .faulty))
+    st (withFaulty a b (onward next st)) (λ e _. marked-begins a b next st e (before none)))))
 
 -- ---- the whole header
 pub ids-whole : (s : List ℕ) → Unrefused Whole (idSteps s (netStep s unread .n) (netStep s unread))

@@ -9,13 +9,16 @@ use Rattle.lists.specs.Choice.Laws.{choose-ind}
 use Rattle.schedule.specs.Story.{Story, refuse, judged, unlessRefused, repeat}
 
 -- ---- a line that is not turned down
-pub judged-ind : (P : Story → Type 0) (r : ℕ) (before after : Story) → (r ≡ 0 → P after) → ((r ≡ 0 → ⊥) → P (refuse r before)) → P (judged r before after)
+pub judged-ind : (P : Story → Type 0) (r : ℕ) (before after : Story)
+    → (r ≡ 0 → P after) → ((r ≡ 0 → ⊥) → P (refuse r before)) → P (judged r before after)
 unfolding judged
 judged-ind P r before after on off = choose-ind P (eqb r 0) (λ e. on (eqb-true r 0 e)) (λ e. off (eqb-false r 0 e))
 
-pub unless-ind : (P : Story → Type 0) (st next : Story) → (st .refusal ≡ 0 → P next) → ((st .refusal ≡ 0 → ⊥) → P st) → P (unlessRefused st next)
+pub unless-ind : (P : Story → Type 0) (st next : Story)
+    → (st .refusal ≡ 0 → P next) → ((st .refusal ≡ 0 → ⊥) → P st) → P (unlessRefused st next)
 unfolding unlessRefused
-unless-ind P st next on off = choose-ind P (eqb (st .refusal) 0) (λ e. on (eqb-true (st .refusal) 0 e)) (λ e. off (eqb-false (st .refusal) 0 e))
+unless-ind P st next on off =
+    choose-ind P (eqb (st .refusal) 0) (λ e. on (eqb-true (st .refusal) 0 e)) (λ e. off (eqb-false (st .refusal) 0 e))
 
 -- a fact that is owed only of a story in which no line is turned down
 abbrev pub Unrefused : (Story → Type 0) → Story → Type 0
@@ -32,7 +35,8 @@ pub unless-owes : (P : Story → Type 0) (st next : Story) → (st .refusal ≡ 
 unless-owes P st next on = unless-ind (Unrefused P) st next on (λ n e. absurd (n e))
 
 -- ---- the same step again and again
-pub repeat-ind : (P : Story → Type 0) (f : Story → Story) → ((st : Story) → P st → P (f st)) → (k : ℕ) (st : Story) → P st → P (repeat k f st)
+pub repeat-ind : (P : Story → Type 0) (f : Story → Story)
+    → ((st : Story) → P st → P (f st)) → (k : ℕ) (st : Story) → P st → P (repeat k f st)
 unfolding repeat
 repeat-ind P f step zero st p = p
 repeat-ind P f step (suc k) st p = step (repeat k f st) (repeat-ind P f step k st p)

@@ -21,7 +21,8 @@ use Rattle.schedule.specs.Story.{Story, refuse, onward, withNet, eventSt
 use Rattle.schedule.specs.Story.Laws.{Unrefused, refuse-owes, judged-owes, unless-ind, unless-owes, repeat-ind}
 
 -- ---- one event more at the end of a history
-pub run-more : (faulty : List Pair) (W : Net) (es : List Event) (e : Event) → run faulty W (es ++ (e ∷ [])) ≡ happens faulty (run faulty W es) e
+pub run-more : (faulty : List Pair) (W : Net) (es : List Event) (e : Event)
+    → run faulty W (es ++ (e ∷ [])) ≡ happens faulty (run faulty W es) e
 unfolding run
 run-more faulty W [] e = refl
 run-more faulty W (x ∷ es) e = run-more faulty (happens faulty W x) es e
@@ -41,7 +42,8 @@ pub proper-carry : (n a b k room : ℕ) → twoBases n a b ≡ true → Proper n
 proper-carry n a b k room e = let p = two-range n a b e in (base-of n a (p .0), base-of n b (p .1 .0), p .1 .1)
 
 pub proper-forge : (n a b count room : ℕ) (rest : List ℕ) → twoBases n a b ≡ true → Proper n (forge a b (hexBytes count rest) room)
-proper-forge n a b count room rest e = let p = two-range n a b e in (base-of n a (p .0), base-of n b (p .1 .0), p .1 .1, bytes-below count rest)
+proper-forge n a b count room rest e = let p = two-range n a b e in
+    (base-of n a (p .0), base-of n b (p .1 .0), p .1 .1, bytes-below count rest)
 
 -- ---- a story that goes on from another
 pub record Tells (begin st : Story) : Type 0 where
@@ -56,7 +58,8 @@ tells-none : (begin : Story) → Tells begin begin
 unfolding run
 tells-none begin = record { n = refl; t = refl; faulty = refl; events = []; proper = tt; net = refl }
 
-tells-more : (begin st : Story) (e : Event) (next : ℕ) → Proper (st .n) e → Tells begin st → Tells begin (withNet (happens (st .faulty) (st .net) e) (onward next st))
+tells-more : (begin st : Story) (e : Event) (next : ℕ)
+    → Proper (st .n) e → Tells begin st → Tells begin (withNet (happens (st .faulty) (st .net) e) (onward next st))
 unfolding withNet onward
 tells-more begin st e next p T = record {
   n = T .n;
@@ -64,20 +67,26 @@ tells-more begin st e next p T = record {
   faulty = T .faulty;
   events = T .events ++ (e ∷ []);
   proper = proper-more (begin .n) (T .events) e (T .proper) (subst (λ (k : ℕ). Proper k e) (T .n) p);
-  net = run-more (begin .faulty) (begin .net) (T .events) e ∙ ap (λ (W : Net). happens (begin .faulty) W e) (T .net) ∙ ap (λ (f : List Pair). happens f (st .net) e) (sym (T .faulty));
+  net = run-more (begin .faulty) (begin .net) (T .events) e
+      ∙ ap (λ (W : Net). happens (begin .faulty) W e) (T .net) ∙ ap (λ (f : List Pair). happens f (st .net) e) (sym (T .faulty));
 }
 
 event-tells : (begin st : Story) (e : Event) (next : ℕ) → Proper (st .n) e → Tells begin st → Unrefused (Tells begin) (eventStep e next st)
 unfolding eventStep
 event-tells begin st e next p T =
-    judged-owes (Tells begin) (eventRefusal (st .faulty) (st .net) e) st (withNet (happens (st .faulty) (st .net) e) (onward next st)) (λ _ _. tells-more begin st e next p T)
+    judged-owes (Tells begin) (eventRefusal (st .faulty) (st .net) e)
+    st (withNet (happens (st .faulty) (st .net) e) (onward next st)) (λ _ _. tells-more begin st e next p T)
 
-line-tells : (s : List ℕ) (begin st : Story) (p : ℕ) (x : Line) → EventTold (st .n) s p x → Tells begin st → Unrefused (Tells begin) (lineStep s x st)
+line-tells : (s : List ℕ) (begin st : Story) (p : ℕ) (x : Line)
+    → EventTold (st .n) s p x → Tells begin st → Unrefused (Tells begin) (lineStep s x st)
 unfolding lineStep
-line-tells s begin st p (Start b next) told T = event-tells begin st (starts b outputRoom) next (proper-start (st .n) b outputRoom (told .0)) T
-line-tells s begin st p (Carry a b k next) told T = event-tells begin st (carry a b k outputRoom) next (proper-carry (st .n) a b k outputRoom (told .0)) T
+line-tells s begin st p (Start b next) told T =
+    event-tells begin st (starts b outputRoom) next (proper-start (st .n) b outputRoom (told .0)) T
+line-tells s begin st p (Carry a b k next) told T =
+    event-tells begin st (carry a b k outputRoom) next (proper-carry (st .n) a b k outputRoom (told .0)) T
 line-tells s begin st p (Forge a b at count next) told T =
-    event-tells begin st (forge a b (hexBytes count (drop at s)) outputRoom) next (proper-forge (st .n) a b count outputRoom (drop at s) (told .0)) T
+    event-tells begin st (forge a b (hexBytes count (drop at s)) outputRoom)
+    next (proper-forge (st .n) a b count outputRoom (drop at s) (told .0)) T
 line-tells s begin st p Wrong told T = refuse-owes (Tells begin) 13 st (λ e. omega arith)
 
 pub next-tells : (s : List ℕ) (begin st : Story) → Unrefused (Tells begin) st → Unrefused (Tells begin) (nextLine s st)
@@ -97,7 +106,8 @@ unfolding nextLine
 next-unrefused s st = unless-ind (λ x. x .refusal ≡ 0 → st .refusal ≡ 0) st _ (λ e _. e) (λ _ e. e)
 
 pub lines-unrefused : (s : List ℕ) (begin : Story) (k : ℕ) → repeat k (nextLine s) begin .refusal ≡ 0 → begin .refusal ≡ 0
-lines-unrefused s begin k = repeat-ind (λ x. x .refusal ≡ 0 → begin .refusal ≡ 0) (nextLine s) (λ st before e. before (next-unrefused s st e)) k begin (λ e. e)
+lines-unrefused s begin k =
+    repeat-ind (λ x. x .refusal ≡ 0 → begin .refusal ≡ 0) (nextLine s) (λ st before e. before (next-unrefused s st e)) k begin (λ e. e)
 
 -- ---- the whole schedule
 pub story-tells : (s : List ℕ) → Unrefused (Tells (header s)) (wholeStory s)
@@ -110,4 +120,5 @@ header-unrefused s = lines-unrefused s (header s) (length s)
 
 pub meaning-whole : (s : List ℕ) → meaning s .refusal ≡ 0 → meaning s ≡ wholeStory s
 unfolding meaning refuse
-meaning-whole s = choose-ind (λ x. x .refusal ≡ 0 → x ≡ wholeStory s) (ltb longestSchedule (length s)) (λ _ e. absurd (omega arith)) (λ _ _. refl)
+meaning-whole s =
+    choose-ind (λ x. x .refusal ≡ 0 → x ≡ wholeStory s) (ltb longestSchedule (length s)) (λ _ e. absurd (omega arith)) (λ _ _. refl)

@@ -21,20 +21,25 @@ use Rattle.schedule.specs.Story.Laws.{Unrefused, refuse-owes, judged-owe
 abbrev Reaches : List ℕ → ℕ → Story → Type 0
 Reaches s k st = (k ≤ st .at) ⊎ (length s ≤ st .at)
 
-there : (s : List ℕ) (k : ℕ) (st : Story) (e : Event) (next : ℕ) → suc k ≤ next → Reaches s (suc k) (withNet (happens (st .faulty) (st .net) e) (onward next st))
+there : (s : List ℕ) (k : ℕ) (st : Story) (e : Event) (next : ℕ)
+    → suc k ≤ next → Reaches s (suc k) (withNet (happens (st .faulty) (st .net) e) (onward next st))
 unfolding withNet onward
 there s k st e next h = inl h
 
-event-reaches : (s : List ℕ) (k : ℕ) (st : Story) (e : Event) (next : ℕ) → suc k ≤ next → Unrefused (Reaches s (suc k)) (eventStep e next st)
+event-reaches : (s : List ℕ) (k : ℕ) (st : Story) (e : Event) (next : ℕ)
+    → suc k ≤ next → Unrefused (Reaches s (suc k)) (eventStep e next st)
 unfolding eventStep
 event-reaches s k st e next h =
-    judged-owes (Reaches s (suc k)) (eventRefusal (st .faulty) (st .net) e) st (withNet (happens (st .faulty) (st .net) e) (onward next st)) (λ _ _. there s k st e next h)
+    judged-owes (Reaches s (suc k)) (eventRefusal (st .faulty) (st .net) e)
+    st (withNet (happens (st .faulty) (st .net) e) (onward next st)) (λ _ _. there s k st e next h)
 
-line-reaches : (s : List ℕ) (k : ℕ) (st : Story) (x : Line) → k ≤ st .at → EventTold (st .n) s (st .at) x → Unrefused (Reaches s (suc k)) (lineStep s x st)
+line-reaches : (s : List ℕ) (k : ℕ) (st : Story) (x : Line)
+    → k ≤ st .at → EventTold (st .n) s (st .at) x → Unrefused (Reaches s (suc k)) (lineStep s x st)
 unfolding lineStep
 line-reaches s k st (Start b next) h told = event-reaches s k st (starts b outputRoom) next (omega (arith, told .1))
 line-reaches s k st (Carry a b j next) h told = event-reaches s k st (carry a b j outputRoom) next (omega (arith, told .1 .1))
-line-reaches s k st (Forge a b at count next) h told = event-reaches s k st (forge a b (hexBytes count (drop at s)) outputRoom) next (omega (arith, told .1 .1 .1))
+line-reaches s k st (Forge a b at count next) h told =
+    event-reaches s k st (forge a b (hexBytes count (drop at s)) outputRoom) next (omega (arith, told .1 .1 .1))
 line-reaches s k st Wrong h told = refuse-owes (Reaches s (suc k)) 13 st (λ e. omega arith)
 
 next-reaches : (s : List ℕ) (k : ℕ) (st : Story) → Unrefused (Reaches s k) st → Unrefused (Reaches s (suc k)) (nextLine s st)

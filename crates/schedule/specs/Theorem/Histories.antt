@@ -1,5 +1,5 @@
--- What agreement says of a history by the states of its bases, as a report prints them: a base whose state says so has stopped, and one that is not idle was
--- started.
+-- What agreement says of a history by the states of its bases, as a report prints them: a base whose state says so has stopped, and
+-- one that is not idle was started.
 use Prim.Native.Nat.{ℕ, _≤_}
 use mathlib.Core.Path.{_≡_, refl, sym, ap, _∙_}
 use mathlib.Core.Logic.{_⊎_, inl, inr}
@@ -23,14 +23,16 @@ use Rattle.protocol.specs.Agreement.Theorem.{agreement}
 use Rattle.protocol.specs.Agreement.Besides.{orderly}
 
 -- ---- an event at another base, or one that is turned down, leaves a base alone
-event-elsewhere : (faulty : List Pair) (W : Net) (e : Event) (b : ℕ) → and (eqb (at e) b) (eqb (refusal faulty W e) 0) ≡ false → happens faulty W e .base b ≡ W .base b
+event-elsewhere : (faulty : List Pair) (W : Net) (e : Event) (b : ℕ)
+    → and (eqb (at e) b) (eqb (refusal faulty W e) 0) ≡ false → happens faulty W e .base b ≡ W .base b
 unfolding happens settled replaced and
 event-elsewhere faulty W e b h = cases (eqb (refusal faulty W e) 0) refl (eqb (at e) b) refl
   where
     cases : (x : Bool) → eqb (refusal faulty W e) 0 ≡ x → (y : Bool) → eqb (at e) b ≡ y → happens faulty W e .base b ≡ W .base b
     cases false q y r = ap (λ (M : Net). M .base b) (choose-no (settled W e) W q)
     cases true q false r =
-        ap (λ (M : Net). M .base b) (choose-yes (settled W e) W q) ∙ choose-no _ (W .base b) (ne-eqb b (at e) (λ same. eqb-false (at e) b r (sym same)))
+        ap (λ (M : Net). M .base b) (choose-yes (settled W e) W q)
+        ∙ choose-no _ (W .base b) (ne-eqb b (at e) (λ same. eqb-false (at e) b r (sym same)))
     cases true q true r = clash (and-both r q) h
 
 -- a base that was never started is as at the beginning
@@ -52,7 +54,11 @@ module _ (n t : ℕ) (faulty : List Pair) (W : Net) (S : Setting n t faulty) (F 
       cases : (x : Bool) → started faulty W es b ≡ x → started faulty W es b ≡ true
       cases true e = e
       cases false e =
-          absurd (omega (arith, ap (λ (c : Base). c .state) (not-started faulty W es b e), eqb-true (W .base b .state) 0 (unfold idle in F .idle b B)))
+          absurd (omega (
+            arith,
+            ap (λ (c : Base). c .state) (not-started faulty W es b e),
+            eqb-true (W .base b .state) 0 (unfold idle in F .idle b B),
+          ))
 
   pub state-most : (b : ℕ) → BaseOf n b → end .base b .state ≤ 3
   state-most b B = sound-parts (end .base b) (record-passed (end .base b) (orderly n t faulty W es S F p .records b B) .sound) .state
@@ -69,7 +75,8 @@ module _ (n t : ℕ) (faulty : List Pair) (W : Net) (S : Setting n t faulty) (F 
   leader-by b B h = agreement n t faulty W es S F p .leader b B (stopped-by b B h)
 
   pub ends-by : waiting n faulty end ≡ 0 → ((b : ℕ) → BaseOf n b → 1 ≤ end .base b .state) → (b : ℕ) → BaseOf n b → 2 ≤ end .base b .state
-  ends-by none all b B = go (agreement n t faulty W es S F p .state b B (agreement n t faulty W es S F p .ends (λ a A. started-by a A (all a A)) none b B))
+  ends-by none all b B =
+      go (agreement n t faulty W es S F p .state b B (agreement n t faulty W es S F p .ends (λ a A. started-by a A (all a A)) none b B))
     where
       go : (end .base b .state ≡ 2) ⊎ (end .base b .state ≡ 3) → 2 ≤ end .base b .state
       go (inl e) = omega arith

@@ -31,7 +31,8 @@ roster-is : (l ids : List ℕ) → l ≡ sort ids → leaderOf l ≡ leaderOf id
 unfolding finalText rosterText
 roster-is l ids e f = ap₂ (λ (x : List ℕ) (v : ℕ). (listText x ++ leaderText) ++ decimalText v) e f
 
-text-agrees : (b : Base) (ids : List ℕ) → (2 ≤ b .state → finalText (finalList b) ≡ rosterText ids) → stateText b ≡ agreedText (b .state) ids
+text-agrees : (b : Base) (ids : List ℕ)
+    → (2 ≤ b .state → finalText (finalList b) ≡ rosterText ids) → stateText b ≡ agreedText (b .state) ids
 unfolding stateText agreedText
 text-agrees b ids roster =
     choose-same (eqb (b .state) 0) (λ _. refl) (λ e.
@@ -63,12 +64,16 @@ module _ (begin : Story) (B : Whole begin) (st : Story) (T : Tells begin st) whe
   told-states : (b : ℕ) → BaseOf (st .n) b → st .net .base b .state ≤ 3
   told-states b C =
       of-net (λ (W : Net). W .base b .state ≤ 3)
-      (state-most (begin .n) (begin .t) (begin .faulty) (begin .net) (begins-setting begin B) (begins-fresh begin B) (T .events) (T .proper) b (base-of b C))
+      (state-most (begin .n) (begin .t)
+      (begin .faulty) (begin .net) (begins-setting begin B) (begins-fresh begin B) (T .events) (T .proper) b (base-of b C))
 
-  told-ends : waiting (st .n) (st .faulty) (st .net) ≡ 0 → ((b : ℕ) → BaseOf (st .n) b → 1 ≤ st .net .base b .state) → (b : ℕ) → BaseOf (st .n) b → 2 ≤ st .net .base b .state
+  told-ends : waiting (st .n) (st .faulty) (st .net) ≡ 0
+      → ((b : ℕ) → BaseOf (st .n) b → 1 ≤ st .net .base b .state) → (b : ℕ) → BaseOf (st .n) b → 2 ≤ st .net .base b .state
   told-ends none all b C =
-      of-net (λ (W : Net). waiting (begin .n) (begin .faulty) W ≡ 0 → ((a : ℕ) → BaseOf (begin .n) a → 1 ≤ W .base a .state) → 2 ≤ W .base b .state)
-      (λ w runs. ends-by (begin .n) (begin .t) (begin .faulty) (begin .net) (begins-setting begin B) (begins-fresh begin B) (T .events) (T .proper) w runs b (base-of b C))
+      of-net (λ (W : Net). waiting (begin .n) (begin .faulty) W ≡ 0
+      → ((a : ℕ) → BaseOf (begin .n) a → 1 ≤ W .base a .state) → 2 ≤ W .base b .state)
+      (λ w runs. ends-by (begin .n) (begin .t) (begin .faulty)
+      (begin .net) (begins-setting begin B) (begins-fresh begin B) (T .events) (T .proper) w runs b (base-of b C))
       (sym (ap₂ (λ (k : ℕ) (f : List Pair). waiting k f (st .net)) (T .n) (T .faulty)) ∙ none)
       (λ a A. all a (subst (λ (k : ℕ). BaseOf k a) (sym (T .n)) A))
 
@@ -79,7 +84,8 @@ Says s st =
     (st .n ≡ header s .n)
     × (((b : ℕ) → BaseOf (st .n) b → stateText (st .net .base b) ≡ agreedText (st .net .base b .state) (givenIds s))
     × (((b : ℕ) → BaseOf (st .n) b → st .net .base b .state ≤ 3)
-    × (waiting (st .n) (st .faulty) (st .net) ≡ 0 → ((b : ℕ) → BaseOf (st .n) b → 1 ≤ st .net .base b .state) → (b : ℕ) → BaseOf (st .n) b → 2 ≤ st .net .base b .state)))
+    × (waiting (st .n) (st .faulty) (st .net) ≡ 0
+    → ((b : ℕ) → BaseOf (st .n) b → 1 ≤ st .net .base b .state) → (b : ℕ) → BaseOf (st .n) b → 2 ≤ st .net .base b .state)))
 
 whole-says : (s : List ℕ) → wholeStory s .refusal ≡ 0 → Says s (wholeStory s)
 unfolding givenIds

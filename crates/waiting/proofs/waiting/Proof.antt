@@ -14,7 +14,8 @@ use Rattle.waiting.proofs.waiting.Statement.{statement}
 use Rattle.waiting.proofs.waiting.Tie as tie
 
 abbrev Inv-loop : tie.InvT-loop
-Inv-loop net n total₀ a₀ total a = (a ≤ n) × (n ≡ size net) × (n ≤ mostBases) × (total ≤ a * (mostBases * mostBroadcasts)) × (total ≡ sum a (λ i. sum (size net) (λ j. waitingFrom (faultyOf net) (shown net) (suc i) (suc j))))
+Inv-loop net n total₀ a₀ total a = (a ≤ n) × (n ≡ size net) × (n ≤ mostBases) × (total ≤ a * (mostBases * mostBroadcasts))
+    × (total ≡ sum a (λ i. sum (size net) (λ j. waitingFrom (faultyOf net) (shown net) (suc i) (suc j))))
 
 abbrev μ-loop : tie.MeasureT-loop
 μ-loop net n total₀ a₀ total a = n - a

@@ -22,7 +22,12 @@ unheard-requires : tie.Need-unheard-requires
 unheard-requires c κs = search needs
 
 returns-3 : tie.Need-returns-3
-returns-3 c = (on-a-good-link _ _ _ _ _ (c .before .broadcasts .ensures .0) (c .unheard .ensures) (c .before .before .before .before .if1 .left) (c .before .before .before .is-good .ensures) (not-false _ (c .before .before .if2 .left)), total-most _ _ (c .unheard .ensures) (c .before .broadcasts .ensures .1))
+returns-3 c = (
+  on-a-good-link _ _ _ _ _ (c .before .broadcasts .ensures .0)
+      (c .unheard .ensures) (c .before .before .before .before .if1 .left) (c .before .before .before .is-good .ensures)
+      (not-false _ (c .before .before .if2 .left)),
+  total-most _ _ (c .unheard .ensures) (c .before .broadcasts .ensures .1),
+)
 
 pub waiting-between-spec : {M : Type 1} → statement M
 waiting-between-spec =

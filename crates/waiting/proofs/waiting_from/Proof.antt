@@ -13,7 +13,8 @@ use Rattle.waiting.proofs.waiting_from.Statement.{statement}
 use Rattle.waiting.proofs.waiting_from.Tie as tie
 
 abbrev Inv-loop : tie.InvT-loop
-Inv-loop a net n sender faulty total₀ b₀ total b = (b ≤ n) × (n ≡ size net) × (n ≤ mostBases) × (total ≤ b * mostBroadcasts) × (total ≡ sum b (λ j. waitingFrom (faultyOf net) (shown net) (suc a) (suc j)))
+Inv-loop a net n sender faulty total₀ b₀ total b = (b ≤ n) × (n ≡ size net)
+    × (n ≤ mostBases) × (total ≤ b * mostBroadcasts) × (total ≡ sum b (λ j. waitingFrom (faultyOf net) (shown net) (suc a) (suc j)))
 
 abbrev μ-loop : tie.MeasureT-loop
 μ-loop a net n sender faulty total₀ b₀ total b = n - b
@@ -32,7 +33,13 @@ element-copy-out-sender c = search needs
 
 loop-holds : tie.Need-loop-holds Inv-loop μ-loop
 unfolding size
-loop-holds c = (omega arith, c .before .before .size-of .ensures, omega (arith, c .before .before .size-of .ensures), omega arith, (unfold sum in refl))
+loop-holds c = (
+  omega arith,
+  c .before .before .size-of .ensures,
+  omega (arith, c .before .before .size-of .ensures),
+  omega arith,
+  (unfold sum in refl),
+)
 
 mul-receiver : tie.Need-mul-receiver Inv-loop μ-loop
 mul-receiver c = search needs
@@ -68,13 +75,19 @@ loop-again : tie.Need-loop-again Inv-loop μ-loop
 unfolding faultyOf
 loop-again c =
     let I = c .before .before .before .loop .inv in
-    let E = c .waiting-between .ensures in
-    (omega arith, I .1, I .2, omega (arith, I .3, E .1), pair-turn _ _ _ _ (c .before .before .before .before .before .before .before .pre) (here (c .before .before)) (I .4) (E .0))
+    let E = c .waiting-between .ensures in (
+      omega arith,
+      I .1,
+      I .2,
+      omega (arith, I .3, E .1),
+      pair-turn _ _ _ _ (c .before .before .before .before .before .before .before .pre) (here (c .before .before)) (I .4) (E .0),
+    )
 
 returns : tie.Need-returns Inv-loop μ-loop
 returns c =
     let I = c .before .loop .inv in
-    let e : c .before .loop .b ≡ size (c .before .before .before .before .before .args .t1) = omega (arith, I .0, I .1, c .loop-test .left) in
+    let e : c .before .loop .b ≡ size (c .before .before .before .before .before .args .t1) = omega
+    (arith, I .0, I .1, c .loop-test .left) in
     (I .4 ∙ rw e, omega (arith, I .0, I .2, I .3))
 
 pub waiting-from-spec : {M : Type 1} → statement M

@@ -19,7 +19,8 @@ refused-requires : tie.Need-refused-requires
 refused-requires c κs = search needs
 
 returns : tie.Need-returns
-returns c = does _ _ _ _ _ (place-down (c .before .before .before .before .before .args .base) _ _ _ _ (c .before .before .place-refusal .ensures) (c .before .if1 .taken)) (c .refused .ensures, refuses-output _ _ _)
+returns c = does _ _ _ _ _ (place-down (c .before .before .before .before .before .args .base)
+    _ _ _ _ (c .before .before .place-refusal .ensures) (c .before .if1 .taken)) (c .refused .ensures, refuses-output _ _ _)
 
 cast-n : tie.Need-cast-n
 cast-n c = search needs
@@ -37,7 +38,8 @@ enum-known-kind : tie.Need-enum-known-kind
 enum-known-kind c = search needs
 
 sub-step : tie.Need-sub-step
-sub-step c = let a = c .before .before .before .before .before .before .before .before .before .args in place-passed (a .base) (a .link) _ (passed (c .before .before .before .before .before)) .some
+sub-step c = let a = c .before .before .before .before .before .before .before .before .before .args in
+    place-passed (a .base) (a .link) _ (passed (c .before .before .before .before .before)) .some
 
 body-requires : tie.Need-body-requires
 body-requires c κs = search needs
@@ -46,16 +48,36 @@ identifiers-requires : tie.Need-identifiers-requires
 identifiers-requires c κs = search needs
 
 step-requires : tie.Need-step-requires
-step-requires c κs = let a = c .before .before .before .before .before .before .before .before .before .before .before .before .args in let e = passed (c .before .before .before .before .before .before .before .before) in let P = place-passed (a .base) (a .link) _ e in (P .ready, (burst-in (a .base) (a .link) _ _ e _ _ _ (sym (c .before .before .before .before .before .before .read .ensures) ∙ c .before .before .before .before .kind .given .1) _ (c .before .identifiers .ensures ∙ ap idArray (c .before .before .body .ensures .0)), P .wide))
+step-requires c κs = let a = c .before .before .before .before .before .before .before .before .before .before .before .before .args in
+    let e = passed (c .before .before .before .before .before .before .before .before) in
+    let P = place-passed (a .base) (a .link) _ e in (
+      P .ready,
+      (
+        burst-in (a .base) (a .link) _ _ e _ _
+            _ (sym (c .before .before .before .before .before .before .read .ensures) ∙ c .before .before .before .before .kind .given .1)
+            _ (c .before .identifiers .ensures ∙ ap idArray (c .before .before .body .ensures .0)),
+        P .wide,
+      ),
+    )
 
 returns-2 : tie.Need-returns-2
-returns-2 c = let a = c .before .before .before .before .before .before .before .before .before .before .args in does _ _ _ _ _ (burst-down (a .base) (a .link) _ _ (passed (c .before .before .before .before .before .before)) _ (sym (c .before .before .before .before .read .ensures) ∙ c .before .before .number .given .1)) (c .refused2 .ensures, refuses-output _ _ _)
+returns-2 c = let a = c .before .before .before .before .before .before .before .before .before .before .args in
+    does _ _ _ _ _ (burst-down (a .base) (a .link) _ _ (passed (c .before .before .before .before .before .before))
+    _ (sym (c .before .before .before .before .read .ensures) ∙ c .before .before .number .given .1))
+    (c .refused2 .ensures, refuses-output _ _ _)
 
 same-length : tie.Need-same-length
 same-length c = search needs
 
 returns-3 : tie.Need-returns-3
-returns-3 c = let a = c .before .before .before .before .before .before .before .before .before .before .before .before .before .before .before .args in does _ _ _ _ _ (arrives (a .base) (a .link) _ _ (passed (c .before .before .before .before .before .before .before .before .before .before .before)) _ _ _ (sym (c .before .before .before .before .before .before .before .before .before .read .ensures) ∙ c .before .before .before .before .before .before .before .kind .given .1) _ (c .before .before .before .before .identifiers .ensures ∙ ap idArray (c .before .before .before .before .before .body .ensures .0))) (c .before .before .step .ensures)
+returns-3 c =
+    let a = c .before .before .before .before .before .before .before .before .before .before .before .before .before .before .before .args
+    in does _ _ _ _ _
+    (arrives (a .base) (a .link) _ _ (passed (c .before .before .before .before .before .before .before .before .before .before .before))
+    _ _ _ (sym (c .before .before .before .before .before .before .before .before .before .read .ensures)
+    ∙ c .before .before .before .before .before .before .before .kind .given .1) _
+    (c .before .before .before .before .identifiers .ensures ∙ ap idArray (c .before .before .before .before .before .body .ensures .0)))
+    (c .before .before .step .ensures)
 
 pub arrive-spec : {M : Type 1} → statement M
 arrive-spec =

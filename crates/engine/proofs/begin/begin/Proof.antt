@@ -30,7 +30,8 @@ returns c =
     let b = s .args .base in
     let ids = b .own ∷ [] in
     let e = w .0 ∙ put-two-lengths (b .n) 1 2 ids (s .args .out .now) (announce-kind (b .n)) (verify-kind (b .n)) (s .pre) in (
-      begins-step b _ _ _ (ap (λ (r : TwoLengths). r .front) e) (ap (λ (r : TwoLengths). r .next) e ∙ sym (ap (λ (r : TwoLengths). r .front) e)) (c .accepted .ensures),
+      begins-step b _ _ _ (ap (λ (r : TwoLengths). r .front) e)
+          (ap (λ (r : TwoLengths). r .next) e ∙ sym (ap (λ (r : TwoLengths). r .front) e)) (c .accepted .ensures),
       begins-output b _ _ (w .1 ∙ put-two-output (b .n) 1 2 ids (s .args .out .now) (announce-kind (b .n)) (verify-kind (b .n)) (s .pre)),
     )
 

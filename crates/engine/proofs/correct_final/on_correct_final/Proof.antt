@@ -1,4 +1,5 @@
--- `engine::correct_final::on_correct_final` meets its contract: a link that holds a Correct-Final discards; else the list replaces what it holds.
+-- `engine::correct_final::on_correct_final` meets its contract: a link that holds a Correct-Final discards; else the list replaces
+-- what it holds.
 use mathlib.Core.Path.{sym, ap, _∙_}
 use native.Mathlib.Omega.{arith}
 use borrow.Author.Needs.{needs}
@@ -33,12 +34,18 @@ element-set-from-link c = search needs
 
 vote-and-check-requires : tie.Need-vote-and-check-requires
 unfolding withLink linkAt
-vote-and-check-requires c κs = let s = c .before .before .before .before .before in let a = s .args in let b = a .t1 in let v = take (b .n) (a .v) in
+vote-and-check-requires c κs = let s = c .before .before .before .before .before in
+    let a = s .args in let b = a .t1 in let v = take (b .n) (a .v) in
     let q = stored-vector b (a .i) 3 (b .n) (a .v) (s .pre .1 .0) in (
       s .pre .0 .net .most,
       (
         s .pre .1 .0,
-        omega (arith, s .pre .1 .1, ap (λ (d : Done). length (encodeAll (d .says))) (correct-taken b (a .i) v (c .before .if1 .left)), ap (λ (x : Base). length (encodeAll (voteAndCheck x v .says))) q),
+        omega (
+          arith,
+          s .pre .1 .1,
+          ap (λ (d : Done). length (encodeAll (d .says))) (correct-taken b (a .i) v (c .before .if1 .left)),
+          ap (λ (x : Base). length (encodeAll (voteAndCheck x v .says))) q,
+        ),
       ),
     )
 
@@ -47,8 +54,11 @@ same-length c = search needs
 
 returns-2 : tie.Need-returns-2
 unfolding withLink linkAt
-returns-2 c = let s = c .before .before .before .before .before .before .before .before in let a = s .args in let b = a .t1 in let v = take (b .n) (a .v) in
-    let e = ap (λ (x : Base). voteAndCheck x v) (stored-vector b (a .i) 3 (b .n) (a .v) (s .pre .1 .0)) ∙ sym (correct-taken b (a .i) v (c .before .before .before .before .if1 .left)) in let p = c .before .before .vote-and-check .ensures in
+returns-2 c = let s = c .before .before .before .before .before .before .before .before in
+    let a = s .args in let b = a .t1 in let v = take (b .n) (a .v) in
+    let e = ap (λ (x : Base). voteAndCheck x v) (stored-vector b (a .i) 3 (b .n) (a .v) (s .pre .1 .0))
+    ∙ sym (correct-taken b (a .i) v (c .before .before .before .before .if1 .left)) in
+    let p = c .before .before .vote-and-check .ensures in
     (p .0 ∙ ap stepOf e, p .1 ∙ ap (λ (d : Done). outputOf d (a .out .now)) e)
 
 pub on-correct-final-spec : {M : Type 1} → statement M

@@ -21,8 +21,10 @@ returns c =
     let p = c .before .before .put .ensures in
     let s = c .before .before .before .before .before .before in
     let e = verify-kind (s .args .n) in
-    let ids = s .args .g ∷ [] in
-    (p .0 ∙ put-length (s .args .n) 2 ids (s .args .out .now) e (s .pre), p .1 ∙ put-output (s .args .n) 2 ids (s .args .out .now) e (s .pre))
+    let ids = s .args .g ∷ [] in (
+      p .0 ∙ put-length (s .args .n) 2 ids (s .args .out .now) e (s .pre),
+      p .1 ∙ put-output (s .args .n) 2 ids (s .args .out .now) e (s .pre),
+    )
 
 pub say-one-spec : {M : Type 1} → statement M
 say-one-spec = tie.close (tie.spec slice-aggregate-put put-requires same-length returns)

@@ -25,16 +25,32 @@ stop-requires : tie.Need-stop-requires
 stop-requires c κs = let s = c .before .before .before .before in let b = s .args .base in let v = take (b .n) (s .args .v) in
     let e = secondary-yes b v [] (sym (c .before .before .is-secondary .ensures) ∙ not-false _ (c .before .if1 .left)) in
     let z : length (s .args .v) ≡ 16 = s .good .1 .0 .1 .0 .1 in
-    let long : length v ≡ b .n = length-take-le (b .n) (s .args .v) (omega arith) in
-    (s .pre .0, (s .pre .1 .0, omega (arith, s .pre .1 .1, ap (λ (d : Done). length (encodeAll (d .says))) e, ap length (stops-bytes b 3 v), length-frame 3 v, long)))
+    let long : length v ≡ b .n = length-take-le (b .n) (s .args .v) (omega arith) in (
+      s .pre .0,
+      (
+        s .pre .1 .0,
+        omega (
+          arith,
+          s .pre .1 .1,
+          ap (λ (d : Done). length (encodeAll (d .says))) e,
+          ap length (stops-bytes b 3 v),
+          length-frame 3 v,
+          long,
+        ),
+      ),
+    )
 
 same-length : tie.Need-same-length
 same-length c = search needs
 
 returns-2 : tie.Need-returns-2
-returns-2 c = let s = c .before .before .before .before .before .before .before in let b = s .args .base in let v = take (b .n) (s .args .v) in
-    let e = secondary-yes b v [] (sym (c .before .before .before .before .before .is-secondary .ensures) ∙ not-false _ (c .before .before .before .before .if1 .left)) in
-    (c .before .before .stop .ensures .0 ∙ ap checkedOf (sym e), c .before .before .stop .ensures .1 ∙ ap (λ (d : Done). outputOf d (s .args .out .now)) (sym e))
+returns-2 c = let s = c .before .before .before .before .before .before .before in
+    let b = s .args .base in let v = take (b .n) (s .args .v) in
+    let e = secondary-yes b v [] (sym (c .before .before .before .before .before .is-secondary .ensures)
+    ∙ not-false _ (c .before .before .before .before .if1 .left)) in (
+      c .before .before .stop .ensures .0 ∙ ap checkedOf (sym e),
+      c .before .before .stop .ensures .1 ∙ ap (λ (d : Done). outputOf d (s .args .out .now)) (sym e),
+    )
 
 pub secondary-check-spec : {M : Type 1} → statement M
 secondary-check-spec =

@@ -23,7 +23,8 @@ same-length c = search needs
 
 returns : tie.Need-returns
 unfolding outputOf
-returns c = let s = c .before .before .before .before .before in let b = s .args .base in let v = take (b .n) (s .args .list) in let w = c .before .before .say-list .ensures in
+returns c = let s = c .before .before .before .before .before in
+    let b = s .args .base in let v = take (b .n) (s .args .list) in let w = c .before .before .say-list .ensures in
     let z : length (s .args .list) ≡ 16 = s .good .1 .1 .0 .1 .0 .1 in
     let long : length v ≡ b .n = length-take-le (b .n) (s .args .list) (omega arith) in (
       stopped-is b (s .args .state) _ v (s .args .list) (s .pre .1 .0) (w .0 ∙ ap frameBytes (sym long) ∙ sym (length-frame 3 v)),

@@ -1,4 +1,5 @@
--- `engine::verify::on_verify` meets its contract. The two reasons to discard come in the order of the definition; a link that is not full has a place left for the Verify.
+-- `engine::verify::on_verify` meets its contract. The two reasons to discard come in the order of the definition; a link that is
+-- not full has a place left for the Verify.
 use Prim.Native.Nat.{ℕ, _<_}
 use mathlib.Core.List.{[]}
 use mathlib.Core.Path.{_≡_, sym, _∙_}
@@ -17,13 +18,18 @@ use Rattle.engine.proofs.verify.on_verify.Tie as tie
 abbrev next : Base → ℕ → ℕ → Base
 next b i g = withLink b i (withVerify (linkAt b i) g)
 
-taken : (c : tie.Else2) → let a = c .before .before .before .before .before .before .args in let k = primeCheck (next (a .t1) (a .i) (a .g)) [] in onVerify (a .t1) (a .i) (a .g) ≡ accepts (k .base) (k .says)
+taken : (c : tie.Else2) → let a = c .before .before .before .before .before .before .args in
+    let k = primeCheck (next (a .t1) (a .i) (a .g)) [] in onVerify (a .t1) (a .i) (a .g) ≡ accepts (k .base) (k .says)
 unfolding linkAt
-taken c = let a = c .before .before .before .before .before .before .args in verify-taken (a .t1) (a .i) (a .g) (sym (c .before .before .before .holds-verify .ensures) ∙ c .before .before .if1 .left) (sym (c .before .is-full .ensures) ∙ c .if2 .left)
+taken c = let a = c .before .before .before .before .before .before .args in
+    verify-taken (a .t1) (a .i) (a .g) (sym (c .before .before .before .holds-verify .ensures) ∙ c .before .before .if1 .left)
+    (sym (c .before .is-full .ensures) ∙ c .if2 .left)
 
-place : (c : tie.Else2) → let a = c .before .before .before .before .before .before .args in linkAt (a .t1) (a .i) .«verify_count» < listRoom
+place : (c : tie.Else2) → let a = c .before .before .before .before .before .before .args in
+    linkAt (a .t1) (a .i) .«verify_count» < listRoom
 unfolding linkAt
-place c = let a = c .before .before .before .before .before .before .args in full-room (a .t1 .n) (linkAt (a .t1) (a .i)) (sym (c .before .is-full .ensures) ∙ c .if2 .left) (c .before .before .before .before .before .before .pre .0 .net .most)
+place c = let a = c .before .before .before .before .before .before .args in full-room (a .t1 .n) (linkAt (a .t1) (a .i))
+    (sym (c .before .is-full .ensures) ∙ c .if2 .left) (c .before .before .before .before .before .before .pre .0 .net .most)
 
 mul-link : tie.Need-mul-link
 mul-link c = search needs
@@ -40,7 +46,8 @@ discarded-requires c κs = search needs
 returns : tie.Need-returns
 unfolding linkAt
 returns c = let a = c .before .before .before .before .before .args in
-    dropped _ (a .t1) _ _ (verify-dropped (a .t1) (a .i) (a .g) (or-first _ (sym (c .before .before .holds-verify .ensures) ∙ c .before .if1 .taken))) (c .discarded .ensures)
+    dropped _ (a .t1) _ _ (verify-dropped (a .t1)
+    (a .i) (a .g) (or-first _ (sym (c .before .before .holds-verify .ensures) ∙ c .before .if1 .taken))) (c .discarded .ensures)
 
 is-full-requires : tie.Need-is-full-requires
 is-full-requires c κs = search needs
@@ -51,7 +58,8 @@ discarded-requires-2 c κs = search needs
 returns-2 : tie.Need-returns-2
 unfolding linkAt
 returns-2 c = let a = c .before .before .before .before .before .before .before .args in
-    dropped _ (a .t1) _ _ (verify-dropped (a .t1) (a .i) (a .g) (or-second _ (sym (c .before .before .is-full .ensures) ∙ c .before .if2 .taken))) (c .discarded2 .ensures)
+    dropped _ (a .t1) _ _ (verify-dropped (a .t1)
+    (a .i) (a .g) (or-second _ (sym (c .before .before .is-full .ensures) ∙ c .before .if2 .taken))) (c .discarded2 .ensures)
 
 cast-at : tie.Need-cast-at
 unfolding linkAt
@@ -77,8 +85,14 @@ element-set-from-next c = search needs
 
 prime-check-requires : tie.Need-prime-check-requires
 unfolding withLink withVerify linkAt
-prime-check-requires c κs = let a = c .before .before .before .before .before .before .before .args in
-    (c .before .before .before .before .before .before .before .pre .0 .net .most, omega (arith, c .before .before .before .before .before .before .before .pre .1, one-room _ (primeCheck (next (a .t1) (a .i) (a .g)) []) (taken (c .before))))
+prime-check-requires c κs = let a = c .before .before .before .before .before .before .before .args in (
+  c .before .before .before .before .before .before .before .pre .0 .net .most,
+  omega (
+    arith,
+    c .before .before .before .before .before .before .before .pre .1,
+    one-room _ (primeCheck (next (a .t1) (a .i) (a .g)) []) (taken (c .before)),
+  ),
+)
 
 accepted-requires : tie.Need-accepted-requires
 accepted-requires c κs = search needs
@@ -88,8 +102,13 @@ same-length c = search needs
 
 returns-3 : tie.Need-returns-3
 unfolding withLink withVerify linkAt
-returns-3 c = let a = c .before .before .before .before .before .before .before .before .before .before .before .before .args in let k = primeCheck (next (a .t1) (a .i) (a .g)) [] in let e = taken (c .before .before .before .before .before .before) in let p = c .before .before .before .before .prime-check .ensures in
-    (one-step _ k (c .before .before .before .before .prime-check .result) _ e (prime-lone (next (a .t1) (a .i) (a .g)) .1) (p .0) (c .accepted .ensures), one-output _ k _ _ e (p .1))
+returns-3 c = let a = c .before .before .before .before .before .before .before .before .before .before .before .before .args in
+    let k = primeCheck (next (a .t1) (a .i) (a .g)) [] in let e = taken (c .before .before .before .before .before .before) in
+    let p = c .before .before .before .before .prime-check .ensures in (
+      one-step _ k (c .before .before .before .before .prime-check .result)
+          _ e (prime-lone (next (a .t1) (a .i) (a .g)) .1) (p .0) (c .accepted .ensures),
+      one-output _ k _ _ e (p .1),
+    )
 
 pub on-verify-spec : {M : Type 1} → statement M
 on-verify-spec =

@@ -39,7 +39,8 @@ returns-3 : tie.Need-returns-3
 unfolding twoAt
 returns-3 c =
     rw (
-      sym (c .before .before .before .before .before .before .before .field-at .ensures) ∙ c .before .before .before .before .before .a .given .1,
+      sym (c .before .before .before .before .before .before .before .field-at .ensures)
+          ∙ c .before .before .before .before .before .a .given .1,
       sym (c .before .before .before .field-at2 .ensures) ∙ c .before .b .given .1,
     )
 

@@ -14,11 +14,17 @@ is-base-requires-2 c κs = search needs
 
 returns : tie.Need-returns
 unfolding twoBases and
-returns c = rw (sym (c .before .before .before .is-base .ensures) ∙ c .before .before .if1 .taken, sym (c .before .is-base2 .ensures) ∙ c .if2 .taken)
+returns c = rw (
+  sym (c .before .before .before .is-base .ensures) ∙ c .before .before .if1 .taken,
+  sym (c .before .is-base2 .ensures) ∙ c .if2 .taken,
+)
 
 returns-2 : tie.Need-returns-2
 unfolding twoBases and
-returns-2 c = rw (sym (c .before .before .before .is-base .ensures) ∙ c .before .before .if1 .taken, sym (c .before .is-base2 .ensures) ∙ c .if2 .left)
+returns-2 c = rw (
+  sym (c .before .before .before .is-base .ensures) ∙ c .before .before .if1 .taken,
+  sym (c .before .is-base2 .ensures) ∙ c .if2 .left,
+)
 
 returns-3 : tie.Need-returns-3
 unfolding twoBases and

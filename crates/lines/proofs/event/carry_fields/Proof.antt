@@ -43,7 +43,8 @@ returns-3 : tie.Need-returns-3
 unfolding carryFields choose and
 returns-3 c =
     rw (
-      sym (c .before .before .before .before .before .before .before .before .two-at .ensures) ∙ c .before .before .before .before .before .before .a .given .1,
+      sym (c .before .before .before .before .before .before .before .before .two-at .ensures)
+          ∙ c .before .before .before .before .before .before .a .given .1,
       sym (c .before .before .before .before .field-at .ensures) ∙ c .before .before .k .given .1,
       lt-leb 1 _ (c .if1 .taken),
     )
@@ -53,17 +54,28 @@ two-bases-requires c κs = search needs
 
 cast-t14 : tie.Need-cast-t14
 cast-t14 c =
-    omega (arith, net-base-range (c .before .before .before .before .before .before .before .before .before .before .before .before .args .n) _ (two-range (c .before .before .before .before .before .before .before .before .before .before .before .before .args .n) _ _ (sym (c .before .two-bases .ensures) ∙ c .if2 .taken) .0) .1)
+    omega (
+      arith,
+      net-base-range (c .before .before .before .before .before .before .before .before .before .before .before .before .args .n)
+          _ (two-range (c .before .before .before .before .before .before .before .before .before .before .before .before .args .n)
+          _ _ (sym (c .before .two-bases .ensures) ∙ c .if2 .taken) .0) .1,
+    )
 
 cast-t15 : tie.Need-cast-t15
 cast-t15 c =
-    omega (arith, net-base-range (c .before .before .before .before .before .before .before .before .before .before .before .before .args .n) _ (two-range (c .before .before .before .before .before .before .before .before .before .before .before .before .args .n) _ _ (sym (c .before .two-bases .ensures) ∙ c .if2 .taken) .1 .0) .1)
+    omega (
+      arith,
+      net-base-range (c .before .before .before .before .before .before .before .before .before .before .before .before .args .n)
+          _ (two-range (c .before .before .before .before .before .before .before .before .before .before .before .before .args .n)
+          _ _ (sym (c .before .two-bases .ensures) ∙ c .if2 .taken) .1 .0) .1,
+    )
 
 returns-4 : tie.Need-returns-4
 unfolding carryFields choose and
 returns-4 c =
     rw (
-      sym (c .before .before .before .before .before .before .before .before .before .before .two-at .ensures) ∙ c .before .before .before .before .before .before .before .before .a .given .1,
+      sym (c .before .before .before .before .before .before .before .before .before .before .two-at .ensures)
+          ∙ c .before .before .before .before .before .before .before .before .a .given .1,
       sym (c .before .before .before .before .before .before .field-at .ensures) ∙ c .before .before .before .before .k .given .1,
       le-leb 1 _ (c .before .before .if1 .left),
       sym (c .before .two-bases .ensures) ∙ c .if2 .taken,
@@ -73,7 +85,8 @@ returns-5 : tie.Need-returns-5
 unfolding carryFields choose and
 returns-5 c =
     rw (
-      sym (c .before .before .before .before .before .before .before .before .before .before .two-at .ensures) ∙ c .before .before .before .before .before .before .before .before .a .given .1,
+      sym (c .before .before .before .before .before .before .before .before .before .before .two-at .ensures)
+          ∙ c .before .before .before .before .before .before .before .before .a .given .1,
       sym (c .before .before .before .before .before .before .field-at .ensures) ∙ c .before .before .before .before .k .given .1,
       le-leb 1 _ (c .before .before .if1 .left),
       sym (c .before .two-bases .ensures) ∙ c .if2 .left,

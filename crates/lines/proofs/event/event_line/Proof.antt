@@ -40,7 +40,8 @@ returns-2 : tie.Need-returns-2
 unfolding eventLine
 returns-2 c =
     rw (
-      sym (c .before .before .before .before .before .before .before .before .word-at .ensures) ∙ c .before .before .before .before .before .before .enum-told .given .1,
+      sym (c .before .before .before .before .before .before .before .before .word-at .ensures)
+          ∙ c .before .before .before .before .before .before .enum-told .given .1,
       sym (c .before .before .before .before .word-at2 .ensures) ∙ c .before .before .next2 .given .1,
     ) (c .carry-fields .ensures)
 
@@ -63,8 +64,10 @@ returns-3 : tie.Need-returns-3
 unfolding eventLine
 returns-3 c =
     rw (
-      sym (c .before .before .before .before .before .before .before .before .before .before .before .before .word-at .ensures) ∙ c .before .before .before .before .before .before .before .before .before .before .enum-told .given .1,
-      sym (c .before .before .before .before .before .before .before .before .word-at2 .ensures) ∙ c .before .before .before .before .before .before .enum-told2 .given .1,
+      sym (c .before .before .before .before .before .before .before .before .before .before .before .before .word-at .ensures)
+          ∙ c .before .before .before .before .before .before .before .before .before .before .enum-told .given .1,
+      sym (c .before .before .before .before .before .before .before .before .word-at2 .ensures)
+          ∙ c .before .before .before .before .before .before .enum-told2 .given .1,
       sym (c .before .before .before .before .word-at3 .ensures) ∙ c .before .before .next3 .given .1,
     ) (c .forge-fields .ensures)
 
@@ -75,7 +78,8 @@ returns-4 : tie.Need-returns-4
 unfolding eventLine
 returns-4 c =
     rw (
-      sym (c .before .before .before .before .before .before .before .before .before .before .word-at .ensures) ∙ c .before .before .before .before .before .before .before .before .enum-told .given .1,
+      sym (c .before .before .before .before .before .before .before .before .before .before .word-at .ensures)
+          ∙ c .before .before .before .before .before .before .before .before .enum-told .given .1,
       sym (c .before .before .before .before .before .before .word-at2 .ensures) ∙ c .before .before .before .before .enum-told2 .given .1,
       sym (c .before .before .word-at3 .ensures) ∙ c .enum-told3 .given .1,
     )

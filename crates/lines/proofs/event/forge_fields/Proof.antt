@@ -43,17 +43,28 @@ two-bases-requires c κs = search needs
 
 cast-t13 : tie.Need-cast-t13
 cast-t13 c =
-    omega (arith, net-base-range (c .before .before .before .before .before .before .before .before .before .before .before .args .n) _ (two-range (c .before .before .before .before .before .before .before .before .before .before .before .args .n) _ _ (sym (c .before .two-bases .ensures) ∙ c .if1 .taken) .0) .1)
+    omega (
+      arith,
+      net-base-range (c .before .before .before .before .before .before .before .before .before .before .before .args .n)
+          _ (two-range (c .before .before .before .before .before .before .before .before .before .before .before .args .n)
+          _ _ (sym (c .before .two-bases .ensures) ∙ c .if1 .taken) .0) .1,
+    )
 
 cast-t14 : tie.Need-cast-t14
 cast-t14 c =
-    omega (arith, net-base-range (c .before .before .before .before .before .before .before .before .before .before .before .args .n) _ (two-range (c .before .before .before .before .before .before .before .before .before .before .before .args .n) _ _ (sym (c .before .two-bases .ensures) ∙ c .if1 .taken) .1 .0) .1)
+    omega (
+      arith,
+      net-base-range (c .before .before .before .before .before .before .before .before .before .before .before .args .n)
+          _ (two-range (c .before .before .before .before .before .before .before .before .before .before .before .args .n)
+          _ _ (sym (c .before .two-bases .ensures) ∙ c .if1 .taken) .1 .0) .1,
+    )
 
 returns-3 : tie.Need-returns-3
 unfolding forgeFields choose
 returns-3 c =
     rw (
-      sym (c .before .before .before .before .before .before .before .before .before .two-at .ensures) ∙ c .before .before .before .before .before .before .before .a .given .1,
+      sym (c .before .before .before .before .before .before .before .before .before .two-at .ensures)
+          ∙ c .before .before .before .before .before .before .before .a .given .1,
       sym (c .before .before .before .before .before .hex-at .ensures) ∙ c .before .before .before .count .given .1,
       sym (c .before .two-bases .ensures) ∙ c .if1 .taken,
     )
@@ -62,7 +73,8 @@ returns-4 : tie.Need-returns-4
 unfolding forgeFields choose
 returns-4 c =
     rw (
-      sym (c .before .before .before .before .before .before .before .before .before .two-at .ensures) ∙ c .before .before .before .before .before .before .before .a .given .1,
+      sym (c .before .before .before .before .before .before .before .before .before .two-at .ensures)
+          ∙ c .before .before .before .before .before .before .before .a .given .1,
       sym (c .before .before .before .before .before .hex-at .ensures) ∙ c .before .before .before .count .given .1,
       sym (c .before .two-bases .ensures) ∙ c .if1 .left,
     )

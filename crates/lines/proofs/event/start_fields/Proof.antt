@@ -26,7 +26,11 @@ is-base-requires c κs = search needs
 
 cast-t9 : tie.Need-cast-t9
 cast-t9 c =
-    omega (arith, net-base-range (c .before .before .before .before .before .before .before .args .n) _ (sym (c .before .is-base .ensures) ∙ c .if1 .taken) .1)
+    omega (
+      arith,
+      net-base-range (c .before .before .before .before .before .before .before .args .n)
+          _ (sym (c .before .is-base .ensures) ∙ c .if1 .taken) .1,
+    )
 
 returns-2 : tie.Need-returns-2
 unfolding startFields choose

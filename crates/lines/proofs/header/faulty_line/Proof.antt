@@ -50,8 +50,10 @@ returns-3 : tie.Need-returns-3
 unfolding faultyLine choose and
 returns-3 c =
     rw (
-      sym (c .before .before .before .before .before .before .before .before .before .before .before .before .word-at .ensures) ∙ c .before .before .before .before .before .before .before .before .before .before .next .given .1,
-      sym (c .before .before .before .before .before .before .before .before .two-at .ensures) ∙ c .before .before .before .before .before .before .a .given .1,
+      sym (c .before .before .before .before .before .before .before .before .before .before .before .before .word-at .ensures)
+          ∙ c .before .before .before .before .before .before .before .before .before .before .next .given .1,
+      sym (c .before .before .before .before .before .before .before .before .two-at .ensures)
+          ∙ c .before .before .before .before .before .before .a .given .1,
       sym (c .before .before .before .before .is-base .ensures) ∙ c .before .before .before .if1 .taken,
       sym (c .before .before .is-base2 .ensures) ∙ c .before .if2 .taken,
       lt-ltb _ _ (c .if3 .taken),
@@ -61,8 +63,10 @@ returns-4 : tie.Need-returns-4
 unfolding faultyLine choose and
 returns-4 c =
     rw (
-      sym (c .before .before .before .before .before .before .before .before .before .before .before .before .word-at .ensures) ∙ c .before .before .before .before .before .before .before .before .before .before .next .given .1,
-      sym (c .before .before .before .before .before .before .before .before .two-at .ensures) ∙ c .before .before .before .before .before .before .a .given .1,
+      sym (c .before .before .before .before .before .before .before .before .before .before .before .before .word-at .ensures)
+          ∙ c .before .before .before .before .before .before .before .before .before .before .next .given .1,
+      sym (c .before .before .before .before .before .before .before .before .two-at .ensures)
+          ∙ c .before .before .before .before .before .before .a .given .1,
       sym (c .before .before .before .before .is-base .ensures) ∙ c .before .before .before .if1 .taken,
       sym (c .before .before .is-base2 .ensures) ∙ c .before .if2 .taken,
       le-ltb _ _ (c .if3 .left),
@@ -72,8 +76,10 @@ returns-5 : tie.Need-returns-5
 unfolding faultyLine choose and
 returns-5 c =
     rw (
-      sym (c .before .before .before .before .before .before .before .before .before .before .before .word-at .ensures) ∙ c .before .before .before .before .before .before .before .before .before .next .given .1,
-      sym (c .before .before .before .before .before .before .before .two-at .ensures) ∙ c .before .before .before .before .before .a .given .1,
+      sym (c .before .before .before .before .before .before .before .before .before .before .before .word-at .ensures)
+          ∙ c .before .before .before .before .before .before .before .before .before .next .given .1,
+      sym (c .before .before .before .before .before .before .before .two-at .ensures)
+          ∙ c .before .before .before .before .before .a .given .1,
       sym (c .before .before .before .is-base .ensures) ∙ c .before .before .if1 .taken,
       sym (c .before .is-base2 .ensures) ∙ c .if2 .left,
     )
@@ -82,7 +88,8 @@ returns-6 : tie.Need-returns-6
 unfolding faultyLine choose and
 returns-6 c =
     rw (
-      sym (c .before .before .before .before .before .before .before .before .before .word-at .ensures) ∙ c .before .before .before .before .before .before .before .next .given .1,
+      sym (c .before .before .before .before .before .before .before .before .before .word-at .ensures)
+          ∙ c .before .before .before .before .before .before .before .next .given .1,
       sym (c .before .before .before .before .before .two-at .ensures) ∙ c .before .before .before .a .given .1,
       sym (c .before .is-base .ensures) ∙ c .if1 .left,
     )

@@ -44,7 +44,8 @@ returns-3 : tie.Need-returns-3
 unfolding idLine choose
 returns-3 c =
     rw (
-      sym (c .before .before .before .before .before .before .before .before .word-at .ensures) ∙ c .before .before .before .before .before .before .next .given .1,
+      sym (c .before .before .before .before .before .before .before .before .word-at .ensures)
+          ∙ c .before .before .before .before .before .before .next .given .1,
       sym (c .before .before .before .before .two-at .ensures) ∙ c .before .before .base .given .1,
       eq-eqb _ _ (c .if1 .taken),
     )
@@ -53,7 +54,8 @@ returns-4 : tie.Need-returns-4
 unfolding idLine choose
 returns-4 c =
     rw (
-      sym (c .before .before .before .before .before .before .before .before .word-at .ensures) ∙ c .before .before .before .before .before .before .next .given .1,
+      sym (c .before .before .before .before .before .before .before .before .word-at .ensures)
+          ∙ c .before .before .before .before .before .before .next .given .1,
       sym (c .before .before .before .before .two-at .ensures) ∙ c .before .before .base .given .1,
       ne-eqb _ _ (c .if1 .left),
     )

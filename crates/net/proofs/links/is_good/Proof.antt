@@ -11,7 +11,8 @@ use Rattle.net.proofs.links.is_good.Statement.{statement}
 use Rattle.net.proofs.links.is_good.Tie as tie
 
 abbrev Inv-loop : tie.InvT-loop
-Inv-loop a b faulty count i₀ i = (count ≡ length (pairsOf faulty)) × (count ≤ faultyRoom) × (i ≤ count) × (good (pairsOf faulty) a b ≡ good (drop i (pairsOf faulty)) a b)
+Inv-loop a b faulty count i₀ i = (count ≡ length (pairsOf faulty))
+    × (count ≤ faultyRoom) × (i ≤ count) × (good (pairsOf faulty) a b ≡ good (drop i (pairsOf faulty)) a b)
 
 abbrev μ-loop : tie.MeasureT-loop
 μ-loop a b faulty count i₀ i = count - i
@@ -35,7 +36,8 @@ joins-bases-requires : tie.Need-joins-bases-requires Inv-loop μ-loop
 joins-bases-requires c κs = search needs
 
 returns : tie.Need-returns Inv-loop μ-loop
-returns c = let I = c .before .before .before .before .loop .inv in let h = here (c .before .before .before) in sym (I .3 ∙ good-broken _ _ _ _ _ h (joined-there _ _ _ _ h (c .before .joins-bases .ensures) ∙ c .if1 .taken))
+returns c = let I = c .before .before .before .before .loop .inv in let h = here (c .before .before .before) in
+    sym (I .3 ∙ good-broken _ _ _ _ _ h (joined-there _ _ _ _ h (c .before .joins-bases .ensures) ∙ c .if1 .taken))
 
 add-i : tie.Need-add-i Inv-loop μ-loop
 add-i c = search needs
@@ -44,10 +46,13 @@ loop-less : tie.Need-loop-less Inv-loop μ-loop
 loop-less c = search needs
 
 loop-again : tie.Need-loop-again Inv-loop μ-loop
-loop-again c = let I = c .before .before .before .before .loop .inv in let h = here (c .before .before .before) in (I .0, I .1, omega arith, I .3 ∙ good-next _ _ _ _ _ h (joined-there _ _ _ _ h (c .before .joins-bases .ensures) ∙ c .if1 .left))
+loop-again c = let I = c .before .before .before .before .loop .inv in let h = here (c .before .before .before) in
+    (I .0, I .1, omega arith, I .3 ∙ good-next _ _ _ _ _ h (joined-there _ _ _ _ h (c .before .joins-bases .ensures) ∙ c .if1 .left))
 
 returns-2 : tie.Need-returns-2 Inv-loop μ-loop
-returns-2 c = let I = c .before .loop .inv in let e : c .before .loop .i ≡ length (pairsOf (c .before .before .before .args .t1)) = omega (arith, I .0, I .2, c .loop-test .left) in sym (I .3 ∙ good-end _ _ _ _ e)
+returns-2 c = let I = c .before .loop .inv in
+    let e : c .before .loop .i ≡ length (pairsOf (c .before .before .before .args .t1)) = omega (arith, I .0, I .2, c .loop-test .left) in
+    sym (I .3 ∙ good-end _ _ _ _ e)
 
 pub is-good-spec : {M : Type 1} → statement M
 is-good-spec =

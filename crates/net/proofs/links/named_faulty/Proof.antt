@@ -7,10 +7,12 @@ use Rattle.net.proofs.links.named_faulty.Statement.{statement}
 use Rattle.net.proofs.links.named_faulty.Tie as tie
 
 returns : tie.Need-returns
-returns c = let f = c .before .before .args .faulty in let S = faulty-sized f _ (c .before .before .good .0) in (sym (pairs-full f (omega (arith, S, c .if1 .taken)) ∙ S), omega arith)
+returns c = let f = c .before .before .args .faulty in
+    let S = faulty-sized f _ (c .before .before .good .0) in (sym (pairs-full f (omega (arith, S, c .if1 .taken)) ∙ S), omega arith)
 
 returns-2 : tie.Need-returns-2
-returns-2 c = let f = c .before .before .args .faulty in let S = faulty-sized f _ (c .before .before .good .0) in (sym (pairs-part f (omega (arith, S, c .if1 .left))), c .if1 .left)
+returns-2 c = let f = c .before .before .args .faulty in
+    let S = faulty-sized f _ (c .before .before .good .0) in (sym (pairs-part f (omega (arith, S, c .if1 .left))), c .if1 .left)
 
 pub named-faulty-spec : {M : Type 1} → statement M
 named-faulty-spec = tie.close (tie.spec returns returns-2)

@@ -27,7 +27,8 @@ base-of-requires : tie.Need-base-of-requires Inv-loop μ-loop
 base-of-requires c κs = search needs
 
 returns : tie.Need-returns Inv-loop μ-loop
-returns c = sym (c .before .before .before .before .loop .inv .1 ∙ owned-here _ _ _ (c .before .before .before .loop-test .taken) (sym (ap (λ (x : Base). x .own) (c .before .before .base-of .ensures)) ∙ c .if1 .taken))
+returns c = sym (c .before .before .before .before .loop .inv .1 ∙ owned-here _ _ _ (c .before .before .before .loop-test .taken)
+    (sym (ap (λ (x : Base). x .own) (c .before .before .base-of .ensures)) ∙ c .if1 .taken))
 
 sub-b : tie.Need-sub-b Inv-loop μ-loop
 sub-b c = search needs
@@ -36,7 +37,11 @@ loop-less : tie.Need-loop-less Inv-loop μ-loop
 loop-less c = search needs
 
 loop-again : tie.Need-loop-again Inv-loop μ-loop
-loop-again c = (omega arith, c .before .before .before .before .loop .inv .1 ∙ owned-below _ _ _ (c .before .before .before .loop-test .taken) (λ e. c .if1 .left (ap (λ (x : Base). x .own) (c .before .before .base-of .ensures) ∙ e)))
+loop-again c = (
+  omega arith,
+  c .before .before .before .before .loop .inv .1 ∙ owned-below _ _ _ (c .before .before .before .loop-test .taken)
+      (λ e. c .if1 .left (ap (λ (x : Base). x .own) (c .before .before .base-of .ensures) ∙ e)),
+)
 
 returns-2 : tie.Need-returns-2 Inv-loop μ-loop
 returns-2 c = sym (c .before .loop .inv .1 ∙ owned-none _ _ _ (c .loop-test .left))

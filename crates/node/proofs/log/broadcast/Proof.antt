@@ -24,7 +24,8 @@ element-copy-out-result : tie.Need-element-copy-out-result
 element-copy-out-result c = search needs
 
 returns : tie.Need-returns
-returns c = frame-there _ _ _ (index (c .before .before .before .before)) (omega (arith, c .before .before .before .broadcasts .ensures .0, c .before .before .if2 .taken))
+returns c = frame-there _ _ _ (index (c .before .before .before .before))
+    (omega (arith, c .before .before .before .broadcasts .ensures .0, c .before .before .if2 .taken))
 
 returns-2 : tie.Need-returns-2
 returns-2 c = frame-none _ _ _ (index (c .before .before)) (omega (arith, c .before .broadcasts .ensures .0, c .if2 .left))

@@ -7,10 +7,12 @@ use Rattle.node.proofs.log.broadcasts.Statement.{statement}
 use Rattle.node.proofs.log.broadcasts.Tie as tie
 
 returns : tie.Need-returns
-returns c = let v = c .before .before .args .node in let S = node-sized v _ (c .before .before .good .0) in (sym (log-full v (omega (arith, S .frames, c .if1 .taken)) ∙ S .frames), omega arith)
+returns c = let v = c .before .before .args .node in let S = node-sized v _ (c .before .before .good .0) in
+    (sym (log-full v (omega (arith, S .frames, c .if1 .taken)) ∙ S .frames), omega arith)
 
 returns-2 : tie.Need-returns-2
-returns-2 c = let v = c .before .before .args .node in let S = node-sized v _ (c .before .before .good .0) in (sym (log-part v (omega (arith, S .frames, c .if1 .left))), c .if1 .left)
+returns-2 c = let v = c .before .before .args .node in
+    let S = node-sized v _ (c .before .before .good .0) in (sym (log-part v (omega (arith, S .frames, c .if1 .left))), c .if1 .left)
 
 pub broadcasts-spec : {M : Type 1} → statement M
 broadcasts-spec = tie.close (tie.spec returns returns-2)

@@ -20,7 +20,8 @@ returns-3 c = and-goes-on (is-within (c .before .before .if1 .left) (c .before .
 
 returns-4 : tie.Need-returns-4
 unfolding heardBy
-returns-4 c = and-goes-on (is-within (c .before .before .before .if1 .left) (c .before .before .if2 .left)) (and-fails _ (above-most (c .if4 .taken)))
+returns-4 c = and-goes-on
+    (is-within (c .before .before .before .if1 .left) (c .before .before .if2 .left)) (and-fails _ (above-most (c .if4 .taken)))
 
 mul-result : tie.Need-mul-result
 mul-result c = search needs
@@ -33,7 +34,8 @@ element-copy-out-result c = search needs
 
 returns-5 : tie.Need-returns-5
 unfolding heardBy markPlace
-returns-5 c = and-goes-on (is-within (c .before .before .before .before .if1 .left) (c .before .before .before .if2 .left)) (and-goes-on (is-within (c .before .before .if3 .left) (c .before .if4 .left)) refl)
+returns-5 c = and-goes-on (is-within (c .before .before .before .before .if1 .left) (c .before .before .before .if2 .left))
+    (and-goes-on (is-within (c .before .before .if3 .left) (c .before .if4 .left)) refl)
 
 pub heard-spec : {M : Type 1} → statement M
 heard-spec =

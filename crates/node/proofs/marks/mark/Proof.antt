@@ -33,7 +33,8 @@ element-write-after c = search needs
 
 returns-5 : tie.Need-returns-5
 unfolding marked markPlace
-returns-5 c = chosen-yes _ (and-both (is-within (c .before .before .before .if1 .left) (c .before .before .if2 .left)) (is-within (c .before .if3 .left) (c .if4 .left))) refl
+returns-5 c = chosen-yes _ (and-both (is-within (c .before .before .before .if1 .left) (c .before .before .if2 .left))
+    (is-within (c .before .if3 .left) (c .if4 .left))) refl
 
 pub mark-spec : {M : Type 1} → statement M
 mark-spec =

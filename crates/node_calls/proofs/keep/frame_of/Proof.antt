@@ -48,7 +48,8 @@ returns c =
     let inv = c .before .loop .inv in
     let a = c .before .before .args in
     let e : c .before .loop .i ≡ a .len = omega arith in
-    let l : length (take (a .len) (drop (a .from) (a .out .now))) ≡ a .len = length-take-le _ _ (simp length-drop (omega (arith, c .before .before .pre .1))) in
+    let l : length (take (a .len) (drop (a .from) (a .out .now))) ≡ a .len = length-take-le
+    _ _ (simp length-drop (omega (arith, c .before .before .pre .1))) in
     rw (inv .1, e, l)
 
 pub frame-of-spec : {M : Type 1} → statement M

@@ -24,7 +24,8 @@ add-after : tie.Need-add-after
 add-after c = search needs
 
 returns-3 : tie.Need-returns-3
-returns-3 c = kept-more _ _ (λ z. c .before .before .if1 .left (sym (part-length _ _ _ (c .before .before .before .before .pre .1)) ∙ z)) (c .before .if2 .left) (c .frame-of .ensures)
+returns-3 c = kept-more _ _ (λ z. c .before .before .if1 .left (sym (part-length _ _ _ (c .before .before .before .before .pre .1)) ∙ z))
+    (c .before .if2 .left) (c .frame-of .ensures)
 
 pub keep-spec : {M : Type 1} → statement M
 keep-spec =

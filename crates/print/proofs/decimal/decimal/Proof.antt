@@ -1,4 +1,5 @@
--- `print::decimal::decimal` meets its contract. Invariant: the digits of the rest, and behind them the array from `start` on, are the number's.
+-- `print::decimal::decimal` meets its contract. Invariant: the digits of the rest, and behind them the array from `start` on, are
+-- the number's.
 use native.Mathlib.Omega.{arith}
 use borrow.Author.Needs.{needs}
 use Prim.Native.Nat.{ℕ, _≤_}
@@ -11,13 +12,15 @@ use Rattle.print.proofs.decimal.decimal.Statement.{statement}
 use Rattle.print.proofs.decimal.decimal.Tie as tie
 
 abbrev Inv-loop : tie.InvT-loop
-Inv-loop v bytes₀ start₀ rest₀ bytes start rest = (start ≤ mostDigits) × ((length bytes ≡ mostDigits) × (decimalText v ≡ lastDigits start rest ++ drop start bytes))
+Inv-loop v bytes₀ start₀ rest₀ bytes start rest =
+    (start ≤ mostDigits) × ((length bytes ≡ mostDigits) × (decimalText v ≡ lastDigits start rest ++ drop start bytes))
 
 abbrev μ-loop : tie.MeasureT-loop
 μ-loop v bytes₀ start₀ rest₀ bytes start rest = start
 
 loop-holds : tie.Need-loop-holds Inv-loop μ-loop
-loop-holds c = (omega arith, (refl, digits-begin (c .args .v) (replicate mostDigits 0) (omega (arith, length-replicate {A = ℕ} mostDigits 0))))
+loop-holds c =
+    (omega arith, (refl, digits-begin (c .args .v) (replicate mostDigits 0) (omega (arith, length-replicate {A = ℕ} mostDigits 0))))
 
 sub-start : tie.Need-sub-start Inv-loop μ-loop
 sub-start c = search needs
@@ -29,15 +32,27 @@ array-write-bytes : tie.Need-array-write-bytes Inv-loop μ-loop
 array-write-bytes c = search needs
 
 returns : tie.Need-returns Inv-loop μ-loop
-returns c =
-    (omega arith, (simp length-set (c .before .before .before .loop .inv .1 .0), digits-last _ _ _ _ _ (c .before .before .loop-test .taken) (omega arith) (c .if1 .taken) (c .before .digit .ensures) (c .before .before .before .loop .inv .1 .1)))
+returns c = (
+  omega arith,
+  (
+    simp length-set (c .before .before .before .loop .inv .1 .0),
+    digits-last _ _ _ _ _ (c .before .before .loop-test .taken)
+        (omega arith) (c .if1 .taken) (c .before .digit .ensures) (c .before .before .before .loop .inv .1 .1),
+  ),
+)
 
 loop-less : tie.Need-loop-less Inv-loop μ-loop
 loop-less c = search needs
 
 loop-again : tie.Need-loop-again Inv-loop μ-loop
-loop-again c =
-    (omega arith, (simp length-set (c .before .before .before .loop .inv .1 .0), decimal-more _ _ _ _ _ (c .before .before .loop-test .taken) (omega arith) (c .if1 .left) (c .before .digit .ensures) (c .before .before .before .loop .inv .1 .1)))
+loop-again c = (
+  omega arith,
+  (
+    simp length-set (c .before .before .before .loop .inv .1 .0),
+    decimal-more _ _ _ _ _ (c .before .before .loop-test .taken)
+        (omega arith) (c .if1 .left) (c .before .digit .ensures) (c .before .before .before .loop .inv .1 .1),
+  ),
+)
 
 returns-2 : tie.Need-returns-2 Inv-loop μ-loop
 returns-2 c = (omega arith, (c .before .loop .inv .1 .0, digits-all _ _ _ _ (c .loop-test .left) (c .before .loop .inv .1 .1)))

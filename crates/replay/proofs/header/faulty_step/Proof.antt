@@ -12,8 +12,15 @@ use Rattle.replay.proofs.header.faulty_step.Statement.{statement}
 use Rattle.replay.proofs.header.faulty_step.Tie as tie
 
 -- the line has its form, so the two are bases of the net
-told : (c : tie.After-known-told) → FaultyTold (c .before .before .before .before .before .before .before .before .args .play .net .n) (c .before .before .before .before .before .before .before .before .args .play .at) (Both (c .before .a .given .0 .0) (c .before .a .given .0 .1 .0) (c .before .a .given .0 .1 .1 .0))
-told c = subst (FaultyTold (c .before .before .before .before .before .before .before .before .args .play .net .n) (c .before .before .before .before .before .before .before .before .args .play .at)) (sym (c .before .before .before .faulty-line .ensures) ∙ c .before .a .given .1) (faulty-told (c .before .before .before .before .before .before .before .before .args .play .net .n) (now (c .before .before .before .before .before .before .before .before .args .s)) (c .before .before .before .before .before .before .before .before .args .play .at))
+told : (c : tie.After-known-told) → FaultyTold (c .before .before .before .before .before .before .before .before .args .play .net .n)
+    (c .before .before .before .before .before .before .before .before .args .play .at)
+    (Both (c .before .a .given .0 .0) (c .before .a .given .0 .1 .0) (c .before .a .given .0 .1 .1 .0))
+told c = subst (FaultyTold (c .before .before .before .before .before .before .before .before .args .play .net .n)
+    (c .before .before .before .before .before .before .before .before .args .play .at))
+    (sym (c .before .before .before .faulty-line .ensures) ∙ c .before .a .given .1)
+    (faulty-told (c .before .before .before .before .before .before .before .before .args .play .net .n)
+    (now (c .before .before .before .before .before .before .before .before .args .s))
+    (c .before .before .before .before .before .before .before .before .args .play .at))
 
 returns : tie.Need-returns
 unfolding faultyPlay
@@ -30,20 +37,26 @@ enum-told c = search needs
 
 returns-2 : tie.Need-returns-2
 unfolding faultyPlay
-returns-2 c = unless-onward _ (c .before .before .before .before .if1 .left) (rw (sym (c .before .before .faulty-line .ensures) ∙ c .enum-told .given .1) refl)
+returns-2 c = unless-onward _
+    (c .before .before .before .before .if1 .left) (rw (sym (c .before .before .faulty-line .ensures) ∙ c .enum-told .given .1) refl)
 
 cast-mark-faulty : tie.Need-cast-mark-faulty
-cast-mark-faulty c = omega (arith, net-base-range (c .before .before .before .before .before .before .before .before .args .play .net .n) _ (told (c) .0) .1)
+cast-mark-faulty c = omega
+    (arith, net-base-range (c .before .before .before .before .before .before .before .before .args .play .net .n) _ (told (c) .0) .1)
 
 cast-mark-faulty-2 : tie.Need-cast-mark-faulty-2
-cast-mark-faulty-2 c = omega (arith, net-base-range (c .before .before .before .before .before .before .before .before .args .play .net .n) _ (told (c) .1 .0) .1)
+cast-mark-faulty-2 c = omega (
+  arith,
+  net-base-range (c .before .before .before .before .before .before .before .before .args .play .net .n) _ (told (c) .1 .0) .1,
+)
 
 mark-faulty-requires : tie.Need-mark-faulty-requires
 mark-faulty-requires c κs = c .before .before .before .before .before .before .before .before .pre
 
 returns-3 : tie.Need-returns-3
 unfolding faultyPlay
-returns-3 c = unless-onward _ (c .before .before .before .before .before .before .if1 .left) (rw (sym (c .before .before .before .before .faulty-line .ensures) ∙ c .before .before .a .given .1) (c .mark-faulty .ensures))
+returns-3 c = unless-onward _ (c .before .before .before .before .before .before .if1 .left)
+    (rw (sym (c .before .before .before .before .faulty-line .ensures) ∙ c .before .before .a .given .1) (c .mark-faulty .ensures))
 
 pub faulty-step-spec : {M : Type 1} → statement M
 faulty-step-spec =

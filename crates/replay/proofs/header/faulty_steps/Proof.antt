@@ -32,10 +32,26 @@ loop-less : tie.Need-loop-less Inv-loop μ-loop
 loop-less c = omega arith
 
 loop-again : tie.Need-loop-again Inv-loop μ-loop
-loop-again c = let I = c .before .before .loop .inv in (omega arith, (I .1 .0, (omega (arith, ap (λ (p : Play). p .line) (c .faulty-step .ensures), faulty-near (now (c .before .before .before .before .args .s)) (258 + c .before .before .loop .k) (c .before .before .loop .play) (I .1 .1 .0)), repeat-more _ _ _ (I .1 .1 .1) (c .faulty-step .ensures))))
+loop-again c = let I = c .before .before .loop .inv in (
+  omega arith,
+  (
+    I .1 .0,
+    (
+      omega (
+        arith,
+        ap (λ (p : Play). p .line) (c .faulty-step .ensures),
+        faulty-near (now (c .before .before .before .before .args .s)) (258 + c .before .before .loop .k)
+            (c .before .before .loop .play) (I .1 .1 .0),
+      ),
+      repeat-more _ _ _ (I .1 .1 .1) (c .faulty-step .ensures),
+    ),
+  ),
+)
 
 returns : tie.Need-returns Inv-loop μ-loop
-returns c = c .before .loop .inv .1 .1 .1 ∙ ap (λ (k : ℕ). repeatPlay k (faultyPlay (now (c .before .before .before .args .s))) (c .before .before .before .args .first)) (omega (arith, c .before .loop .inv .0, c .before .loop .inv .1 .0, c .loop-test .left))
+returns c = c .before .loop .inv .1 .1 .1
+    ∙ ap (λ (k : ℕ). repeatPlay k (faultyPlay (now (c .before .before .before .args .s))) (c .before .before .before .args .first))
+    (omega (arith, c .before .loop .inv .0, c .before .loop .inv .1 .0, c .loop-test .left))
 
 pub faulty-steps-spec : {M : Type 1} → statement M
 faulty-steps-spec =

@@ -25,7 +25,8 @@ refuse-requires c κs = search needs
 
 returns-2 : tie.Need-returns-2
 unfolding idPlay
-returns-2 c = unless-onward _ (c .before .before .before .before .if1 .left) (rw (sym (c .before .before .before .id-line .ensures) ∙ c .before .enum-told .given .1) (c .refuse .ensures))
+returns-2 c = unless-onward _ (c .before .before .before .before .if1 .left)
+    (rw (sym (c .before .before .before .id-line .ensures) ∙ c .before .enum-told .given .1) (c .refuse .ensures))
 
 id-refusal-requires : tie.Need-id-refusal-requires
 id-refusal-requires c κs = search needs
@@ -35,7 +36,10 @@ refuse-requires-2 c κs = search needs
 
 returns-3 : tie.Need-returns-3
 unfolding idPlay
-returns-3 c = unless-onward _ (c .before .before .before .before .before .before .before .before .if1 .left) (rw (sym (c .before .before .before .before .before .before .before .id-line .ensures) ∙ c .before .before .before .before .before .v .given .1) (judged-refused _ _ (c .before .before .id-refusal .ensures) (c .before .if2 .taken) (c .refuse2 .ensures)))
+returns-3 c = unless-onward _ (c .before .before .before .before .before .before .before .before .if1 .left)
+    (rw (sym (c .before .before .before .before .before .before .before .id-line .ensures)
+    ∙ c .before .before .before .before .before .v .given .1)
+    (judged-refused _ _ (c .before .before .id-refusal .ensures) (c .before .if2 .taken) (c .refuse2 .ensures)))
 
 named-requires : tie.Need-named-requires
 named-requires c κs = search needs
@@ -45,7 +49,12 @@ onward-requires c κs = c .before .before .before .before .before .before .befor
 
 returns-4 : tie.Need-returns-4
 unfolding idPlay
-returns-4 c = unless-onward _ (c .before .before .before .before .before .before .before .before .before .if1 .left) (rw (sym (c .before .before .before .before .before .before .before .before .id-line .ensures) ∙ c .before .before .before .before .before .before .v .given .1) (judged-onward _ (c .before .before .before .id-refusal .ensures) (c .before .before .if2 .left) (c .onward .ensures ∙ ap (λ (w : Net). onwardPlay (c .before .before .before .before .before .before .before .before .before .before .before .before .args .play) w (c .before .before .before .before .before .before .v .given .0 .1 .0)) (c .before .named .ensures))))
+returns-4 c = unless-onward _ (c .before .before .before .before .before .before .before .before .before .if1 .left)
+    (rw (sym (c .before .before .before .before .before .before .before .before .id-line .ensures)
+    ∙ c .before .before .before .before .before .before .v .given .1) (judged-onward
+    _ (c .before .before .before .id-refusal .ensures) (c .before .before .if2 .left) (c .onward .ensures ∙ ap (λ (w : Net).
+    onwardPlay (c .before .before .before .before .before .before .before .before .before .before .before .before .args .play)
+    w (c .before .before .before .before .before .before .v .given .0 .1 .0)) (c .before .named .ensures))))
 
 pub id-step-spec : {M : Type 1} → statement M
 id-step-spec =

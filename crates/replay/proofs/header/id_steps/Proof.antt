@@ -29,10 +29,23 @@ loop-less : tie.Need-loop-less Inv-loop μ-loop
 loop-less c = omega arith
 
 loop-again : tie.Need-loop-again Inv-loop μ-loop
-loop-again c = (omega arith, (omega (arith, ap (λ (p : Play). p .line) (c .id-step .ensures), id-near (now (c .before .before .before .before .args .s)) (c .before .before .loop .b + 1) (2 + c .before .before .loop .b) (c .before .before .loop .play) (c .before .before .loop .inv .1 .0)), ids-more _ _ _ (c .before .before .loop .inv .1 .1) (c .id-step .ensures)))
+loop-again c = (
+  omega arith,
+  (
+    omega (
+      arith,
+      ap (λ (p : Play). p .line) (c .id-step .ensures),
+      id-near (now (c .before .before .before .before .args .s))
+          (c .before .before .loop .b + 1) (2 + c .before .before .loop .b) (c .before .before .loop .play)
+          (c .before .before .loop .inv .1 .0),
+    ),
+    ids-more _ _ _ (c .before .before .loop .inv .1 .1) (c .id-step .ensures),
+  ),
+)
 
 returns : tie.Need-returns Inv-loop μ-loop
-returns c = c .before .loop .inv .1 .1 ∙ ap (λ (k : ℕ). idPlays (now (c .before .before .before .args .s)) k (c .before .before .before .args .first)) (omega (arith, c .before .loop .inv .0, c .loop-test .left))
+returns c = c .before .loop .inv .1 .1 ∙ ap (λ (k : ℕ). idPlays (now (c .before .before .before .args .s))
+    k (c .before .before .before .args .first)) (omega (arith, c .before .loop .inv .0, c .loop-test .left))
 
 pub id-steps-spec : {M : Type 1} → statement M
 id-steps-spec =

@@ -21,7 +21,8 @@ refuse-requires c κs = search needs
 
 returns : tie.Need-returns
 unfolding markedPlay faultyOf
-returns c = chosen-no _ (ap not (sym (c .before .before .before .before .is-good .ensures) ∙ c .before .before .before .if1 .taken)) (judged-refused _ _ (c .before .before .faulty-refusal .ensures) (c .before .if2 .taken) (c .refuse .ensures))
+returns c = chosen-no _ (ap not (sym (c .before .before .before .before .is-good .ensures) ∙ c .before .before .before .if1 .taken))
+    (judged-refused _ _ (c .before .before .faulty-refusal .ensures) (c .before .if2 .taken) (c .refuse .ensures))
 
 with-faulty-requires : tie.Need-with-faulty-requires
 with-faulty-requires c κs = search needs
@@ -31,7 +32,11 @@ onward-requires c κs = c .before .before .before .before .before .before .befor
 
 returns-2 : tie.Need-returns-2
 unfolding markedPlay faultyOf
-returns-2 c = chosen-no _ (ap not (sym (c .before .before .before .before .before .is-good .ensures) ∙ c .before .before .before .before .if1 .taken)) (judged-onward _ (c .before .before .before .faulty-refusal .ensures) (c .before .before .if2 .left) (c .onward .ensures ∙ ap (λ (w : Net). onwardPlay (c .before .before .before .before .before .before .before .before .args .play) w (c .before .before .before .before .before .before .before .before .args .next)) (c .before .with-faulty .ensures)))
+returns-2 c = chosen-no _
+    (ap not (sym (c .before .before .before .before .before .is-good .ensures) ∙ c .before .before .before .before .if1 .taken))
+    (judged-onward _ (c .before .before .before .faulty-refusal .ensures) (c .before .before .if2 .left)
+    (c .onward .ensures ∙ ap (λ (w : Net). onwardPlay (c .before .before .before .before .before .before .before .before .args .play)
+    w (c .before .before .before .before .before .before .before .before .args .next)) (c .before .with-faulty .ensures)))
 
 refuse-requires-2 : tie.Need-refuse-requires-2
 refuse-requires-2 c κs = search needs

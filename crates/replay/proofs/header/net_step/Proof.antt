@@ -31,7 +31,8 @@ refuse-requires c κs = search needs
 
 returns : tie.Need-returns
 unfolding netPlay
-returns c = rw (sym (c .before .before .before .before .net-line .ensures) ∙ c .before .before .enum-told .given .1) (c .refuse .ensures ∙ ap (refusedPlay 13) (c .before .unread .ensures))
+returns c = rw (sym (c .before .before .before .before .net-line .ensures) ∙ c .before .before .enum-told .given .1)
+    (c .refuse .ensures ∙ ap (refusedPlay 13) (c .before .unread .ensures))
 
 size-refusal-requires : tie.Need-size-refusal-requires
 size-refusal-requires c κs = search needs
@@ -44,7 +45,10 @@ refuse-requires-2 c κs = search needs
 
 returns-2 : tie.Need-returns-2
 unfolding netPlay
-returns-2 c = rw (sym (c .before .before .before .before .before .before .before .net-line .ensures) ∙ c .before .before .before .before .before .n .given .1) (judged-refused _ _ (c .before .before .before .size-refusal .ensures) (c .before .before .if1 .taken) (c .refuse2 .ensures ∙ ap (refusedPlay (c .before .before .before .size-refusal .result)) (c .before .unread2 .ensures)))
+returns-2 c = rw (sym (c .before .before .before .before .before .before .before .net-line .ensures)
+    ∙ c .before .before .before .before .before .n .given .1)
+    (judged-refused _ _ (c .before .before .before .size-refusal .ensures) (c .before .before .if1 .taken)
+    (c .refuse2 .ensures ∙ ap (refusedPlay (c .before .before .before .size-refusal .result)) (c .before .unread2 .ensures)))
 
 unread-requires-3 : tie.Need-unread-requires-3
 unread-requires-3 c κs = search needs
@@ -64,7 +68,11 @@ onward-requires c κs = omega (arith, ap (λ (p : Play). p .line) (c .before .un
 
 returns-3 : tie.Need-returns-3
 unfolding netPlay
-returns-3 c = rw (sym (c .before .before .before .before .before .before .before .before .net-line .ensures) ∙ c .before .before .before .before .before .before .n .given .1) (judged-onward _ (c .before .before .before .before .size-refusal .ensures) (c .before .before .before .if1 .left) (c .onward .ensures ∙ ap₂ (λ (p : Play) (w : Net). onwardPlay p w (c .before .before .before .before .before .before .n .given .0 .1 .1 .0)) (c .before .before .unread3 .ensures) (c .before .made .ensures)))
+returns-3 c = rw (sym (c .before .before .before .before .before .before .before .before .net-line .ensures)
+    ∙ c .before .before .before .before .before .before .n .given .1)
+    (judged-onward _ (c .before .before .before .before .size-refusal .ensures) (c .before .before .before .if1 .left) (c .onward .ensures
+    ∙ ap₂ (λ (p : Play) (w : Net). onwardPlay p w (c .before .before .before .before .before .before .n .given .0 .1 .1 .0))
+    (c .before .before .unread3 .ensures) (c .before .made .ensures)))
 
 pub net-step-spec : {M : Type 1} → statement M
 net-step-spec =

@@ -14,7 +14,10 @@ sized-line : (c : tie.After-made) → c .before .net-step .result .line ≤ 2
 sized-line c = subst (λ (p : Play). p .line ≤ 2) (sym (c .before .net-step .ensures)) (net-near (now (c .before .before .before .args .s)))
 
 named-line : (c : tie.After-net) → c .before .id-steps .result .line ≤ 2 + c .before .before .before .net-step .result .net .n
-named-line c = subst (λ (p : Play). p .line ≤ 2 + c .before .before .before .net-step .result .net .n) (sym (c .before .id-steps .ensures)) (ids-near (now (c .before .before .before .before .before .args .s)) (c .before .before .before .net-step .result .net .n) 2 (c .before .before .before .net-step .result) (sized-line (c .before .before)))
+named-line c =
+    subst (λ (p : Play). p .line ≤ 2 + c .before .before .before .net-step .result .net .n) (sym (c .before .id-steps .ensures))
+    (ids-near (now (c .before .before .before .before .before .args .s)) (c .before .before .before .net-step .result .net .n)
+    2 (c .before .before .before .net-step .result) (sized-line (c .before .before)))
 
 net-step-requires : tie.Need-net-step-requires
 net-step-requires c κs = search needs
@@ -30,9 +33,15 @@ unfolding headerPlay
 returns c = let s = now (c .before .before .before .before .before .before .args .s) in
     let faulties : Play → Play = λ p. repeatPlay (suc (p .net .t)) (faultyPlay s) p in
     let ids : Play → Play = λ p. idPlays s (p .net .n) p in (
-      c .faulty-steps .ensures ∙ ap faulties (c .before .before .id-steps .ensures ∙ ap ids (c .before .before .before .before .net-step .ensures)),
+      c .faulty-steps .ensures
+          ∙ ap faulties (c .before .before .id-steps .ensures ∙ ap ids (c .before .before .before .before .net-step .ensures)),
       subst (λ (p : Play). p .line ≤ 600) (sym (c .faulty-steps .ensures))
-          (omega (arith, faulties-near s (suc (c .before .before .id-steps .result .net .t)) (2 + c .before .before .before .before .net-step .result .net .n) (c .before .before .id-steps .result) (named-line (c .before)))),
+          (omega (
+            arith,
+            faulties-near s (suc (c .before .before .id-steps .result .net .t))
+                (2 + c .before .before .before .before .net-step .result .net .n)
+                (c .before .before .id-steps .result) (named-line (c .before)),
+          )),
     )
 
 pub play-header-spec : {M : Type 1} → statement M

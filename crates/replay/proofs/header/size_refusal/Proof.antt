@@ -21,11 +21,13 @@ sub-if2 c = omega (arith, net-passed (c .before .before .args .n) (sym (c .befor
 
 returns-2 : tie.Need-returns-2
 unfolding sizeRefusal
-returns-2 c = sym (first-none _ (sym (c .before .before .net-refusal .ensures) ∙ c .before .if1 .left) ∙ choose-yes _ _ (lt-ltb _ _ (c .if2 .taken)))
+returns-2 c = sym (first-none _ (sym (c .before .before .net-refusal .ensures) ∙ c .before .if1 .left)
+    ∙ choose-yes _ _ (lt-ltb _ _ (c .if2 .taken)))
 
 returns-3 : tie.Need-returns-3
 unfolding sizeRefusal
-returns-3 c = sym (first-none _ (sym (c .before .before .net-refusal .ensures) ∙ c .before .if1 .left) ∙ choose-no _ _ (le-ltb _ _ (c .if2 .left)))
+returns-3 c =
+    sym (first-none _ (sym (c .before .before .net-refusal .ensures) ∙ c .before .if1 .left) ∙ choose-no _ _ (le-ltb _ _ (c .if2 .left)))
 
 pub size-refusal-spec : {M : Type 1} → statement M
 size-refusal-spec =

@@ -15,10 +15,17 @@ use Rattle.replay.proofs.history.forge_bytes.Statement.{statement}
 use Rattle.replay.proofs.history.forge_bytes.Tie as tie
 
 room : (c : tie.After-hex-bytes) → c .before .before .args .count ≤ length (c .hex-bytes .result)
-room c = omega (arith, c .before .before .pre .0, ap length (c .hex-bytes .ensures), length-hex (now (c .before .before .args .s)) (c .before .before .args .at) (c .before .before .args .count))
+room c = omega (
+  arith,
+  c .before .before .pre .0,
+  ap length (c .hex-bytes .ensures),
+  length-hex (now (c .before .before .args .s)) (c .before .before .args .at) (c .before .before .args .count),
+)
 
-bytes-are : (c : tie.After-hex-bytes) → take (c .before .before .args .count) (c .hex-bytes .result) ≡ hexBytes (c .before .before .args .count) (drop (c .before .before .args .at) (now (c .before .before .args .s)))
-bytes-are c = ap (take (c .before .before .args .count)) (c .hex-bytes .ensures) ∙ hex-front (now (c .before .before .args .s)) (c .before .before .args .at) (c .before .before .args .count) (c .before .before .pre .0) (c .before .before .pre .1)
+bytes-are : (c : tie.After-hex-bytes) → take (c .before .before .args .count) (c .hex-bytes .result)
+    ≡ hexBytes (c .before .before .args .count) (drop (c .before .before .args .at) (now (c .before .before .args .s)))
+bytes-are c = ap (take (c .before .before .args .count)) (c .hex-bytes .ensures) ∙ hex-front (now (c .before .before .args .s))
+    (c .before .before .args .at) (c .before .before .args .count) (c .before .before .pre .0) (c .before .before .pre .1)
 
 hex-bytes-requires : tie.Need-hex-bytes-requires
 hex-bytes-requires c κs = search needs
@@ -33,7 +40,9 @@ forge-requires : tie.Need-forge-requires
 forge-requires c κs = search needs
 
 returns : tie.Need-returns
-returns c = c .forge .ensures ∙ ap (λ (l : List ℕ). forgedTo (c .before .before .before .before .args .receiver) (pairsOf (c .before .before .before .before .args .faulty)) (c .before .before .before .before .args .a) (c .before .before .before .before .args .b) l) (bytes-are (c .before .before))
+returns c = c .forge .ensures ∙ ap (λ (l : List ℕ).
+    forgedTo (c .before .before .before .before .args .receiver) (pairsOf (c .before .before .before .before .args .faulty))
+    (c .before .before .before .before .args .a) (c .before .before .before .before .args .b) l) (bytes-are (c .before .before))
 
 pub forge-bytes-spec : {M : Type 1} → statement M
 forge-bytes-spec =

@@ -28,14 +28,16 @@ enum-known-line-2 : tie.Need-enum-known-line-2
 enum-known-line-2 c = search needs
 
 forge-bytes-requires : tie.Need-forge-bytes-requires
-forge-bytes-requires c κs = subst (HasBytes (now (c .before .before .before .before .args .s))) (c .before .line2 .given .1) (c .before .before .before .before .pre)
+forge-bytes-requires c κs = subst (HasBytes (now (c .before .before .before .before .args .s)))
+    (c .before .line2 .given .1) (c .before .before .before .before .pre)
 
 enum-told-2 : tie.Need-enum-told-2
 enum-told-2 c = search needs
 
 returns : tie.Need-returns
 unfolding reachedBy told
-returns c = rw (c .before .before .enum-told .given .1) (ap (λ (t : Told). record { refusal = 0; node = t .node }) (c .before .start .ensures))
+returns c =
+    rw (c .before .before .enum-told .given .1) (ap (λ (t : Told). record { refusal = 0; node = t .node }) (c .before .start .ensures))
 
 returns-2 : tie.Need-returns-2
 unfolding reachedBy

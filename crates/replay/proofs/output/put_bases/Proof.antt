@@ -15,7 +15,8 @@ use Rattle.replay.proofs.output.put_bases.Statement.{statement}
 use Rattle.replay.proofs.output.put_bases.Tie as tie
 
 abbrev Inv-loop : tie.InvT-loop
-Inv-loop net n out₀ at₀ b₀ out at b = (b ≤ n) × ((at ≤ lineRoom * b) × ((length out ≡ length out₀) × Put out₀ 0 (baseLines b (shown net)) out at))
+Inv-loop net n out₀ at₀ b₀ out at b =
+    (b ≤ n) × ((at ≤ lineRoom * b) × ((length out ≡ length out₀) × Put out₀ 0 (baseLines b (shown net)) out at))
 
 abbrev μ-loop : tie.MeasureT-loop
 μ-loop net n out₀ at₀ b₀ out at b = n - b
@@ -37,13 +38,24 @@ loop-less c = omega arith
 
 loop-again : tie.Need-loop-again Inv-loop μ-loop
 loop-again c = let I = c .before .before .before .before .before .before .loop .inv in
-    let P = line-there (omega (arith, I .1 .0, I .1 .1 .0, c .before .before .before .before .before .before .before .before .pre .0, c .before .before .before .before .before .before .before .before .pre .1, c .before .before .before .before .before .loop-test .taken)) (c .before .before .base-line .ensures .0) (c .before .before .base-line .ensures .1 .0) in (
+    let P = line-there (omega (
+      arith,
+      I .1 .0,
+      I .1 .1 .0,
+      c .before .before .before .before .before .before .before .before .pre .0,
+      c .before .before .before .before .before .before .before .before .pre .1,
+      c .before .before .before .before .before .loop-test .taken,
+    ))
+    (c .before .before .base-line .ensures .0) (c .before .before .base-line .ensures .1 .0) in (
       omega arith,
       (
         omega (arith, I .1 .0, c .before .before .base-line .ensures .1 .1),
         (
           c .before .before .base-line .kept .0 ∙ I .1 .1 .0,
-          put-as (ap (λ (x : Base). baseLines (c .before .before .before .before .before .before .loop .b) (shown (c .before .before .before .before .before .before .before .before .args .net)) ++ baseLine (c .before .before .before .before .before .before .loop .b + 1) x) (c .before .before .before .base-of .ensures) ∙ bases-more _ _) (put-then (I .1 .1 .1) P),
+          put-as (ap (λ (x : Base). baseLines (c .before .before .before .before .before .before .loop .b)
+              (shown (c .before .before .before .before .before .before .before .before .args .net)) ++ baseLine
+              (c .before .before .before .before .before .before .loop .b + 1) x) (c .before .before .before .base-of .ensures)
+              ∙ bases-more _ _) (put-then (I .1 .1 .1) P),
         ),
       ),
     )
@@ -52,8 +64,11 @@ same-length : tie.Need-same-length Inv-loop μ-loop
 same-length c = c .before .loop .inv .1 .1 .0
 
 returns : tie.Need-returns Inv-loop μ-loop
-returns c = let e : c .before .loop .b ≡ c .before .before .before .args .n = omega (arith, c .before .loop .inv .0, c .loop-test .left) in
-    (put-as (ap (λ (k : ℕ). baseLines k (shown (c .before .before .before .args .net))) e) (c .before .loop .inv .1 .1 .1), subst (λ (k : ℕ). c .before .loop .at ≤ lineRoom * k) e (c .before .loop .inv .1 .0))
+returns c =
+    let e : c .before .loop .b ≡ c .before .before .before .args .n = omega (arith, c .before .loop .inv .0, c .loop-test .left) in (
+      put-as (ap (λ (k : ℕ). baseLines k (shown (c .before .before .before .args .net))) e) (c .before .loop .inv .1 .1 .1),
+      subst (λ (k : ℕ). c .before .loop .at ≤ lineRoom * k) e (c .before .loop .inv .1 .0),
+    )
 
 pub put-bases-spec : {M : Type 1} → statement M
 put-bases-spec =

@@ -22,10 +22,16 @@ same-length c = search needs
 
 returns : tie.Need-returns
 unfolding reportPlay
-returns c = (put-as (chosen-no _ (ne-eqb _ 0 (c .before .before .before .before .if1 .taken)) refl) (line-there (omega (arith, c .before .before .before .before .before .before .pre .0)) (c .before .before .refused-line .ensures .0) (c .before .before .refused-line .ensures .1 .0)), omega (arith, c .before .before .refused-line .ensures .1 .1))
+returns c = (
+  put-as (chosen-no _ (ne-eqb _ 0 (c .before .before .before .before .if1 .taken)) refl)
+      (line-there (omega (arith, c .before .before .before .before .before .before .pre .0)) (c .before .before .refused-line .ensures .0)
+      (c .before .before .refused-line .ensures .1 .0)),
+  omega (arith, c .before .before .refused-line .ensures .1 .1),
+)
 
 put-bases-requires : tie.Need-put-bases-requires
-put-bases-requires c κs = (c .before .before .before .before .pre .1 (c .before .before .if1 .left), c .before .before .before .before .pre .0)
+put-bases-requires c κs =
+    (c .before .before .before .before .pre .1 (c .before .before .if1 .left), c .before .before .before .before .pre .0)
 
 waiting-requires : tie.Need-waiting-requires
 waiting-requires c κs = search needs
@@ -38,10 +44,28 @@ same-length-2 c = search needs
 
 returns-2 : tie.Need-returns-2
 unfolding reportPlay
-returns-2 c = let n = c .before .before .before .before .before .before .before .before .before .before .before .before .pre .1 (c .before .before .before .before .before .before .before .before .before .before .if1 .left) in
-    let P = line-there (omega (arith, c .before .before .before .before .before .before .before .put-bases .ensures .1, n, c .before .before .before .before .before .before .before .before .before .before .before .before .pre .0, text-length (c .before .before .before .before .before .before .before .put-bases .ensures .0))) (c .before .before .waiting-line .ensures .0) (c .before .before .waiting-line .ensures .1 .0) in (
-      put-as (chosen-yes _ (eq-eqb _ 0 (c .before .before .before .before .before .before .before .before .before .before .if1 .left)) (ap (λ (k : ℕ). baseLines (c .before .before .before .before .before .before .before .before .before .before .before .before .args .play .net .n) (shown (c .before .before .before .before .before .before .before .before .before .before .before .before .args .play .net)) ++ waitingLine k) (c .before .before .before .waiting .ensures))) (put-then (c .before .before .before .before .before .before .before .put-bases .ensures .0) P),
-      omega (arith, c .before .before .before .before .before .before .before .put-bases .ensures .1, n, c .before .before .waiting-line .ensures .1 .1),
+returns-2 c = let n = c .before .before .before .before .before .before .before .before .before .before .before .before .pre .1
+    (c .before .before .before .before .before .before .before .before .before .before .if1 .left) in
+    let P = line-there (omega (
+      arith,
+      c .before .before .before .before .before .before .before .put-bases .ensures .1,
+      n,
+      c .before .before .before .before .before .before .before .before .before .before .before .before .pre .0,
+      text-length (c .before .before .before .before .before .before .before .put-bases .ensures .0),
+    ))
+    (c .before .before .waiting-line .ensures .0) (c .before .before .waiting-line .ensures .1 .0) in (
+      put-as (chosen-yes _ (eq-eqb _ 0 (c .before .before .before .before .before .before .before .before .before .before .if1 .left))
+          (ap (λ (k : ℕ). baseLines
+          (c .before .before .before .before .before .before .before .before .before .before .before .before .args .play .net .n)
+          (shown (c .before .before .before .before .before .before .before .before .before .before .before .before .args .play .net))
+          ++ waitingLine k) (c .before .before .before .waiting .ensures)))
+          (put-then (c .before .before .before .before .before .before .before .put-bases .ensures .0) P),
+      omega (
+        arith,
+        c .before .before .before .before .before .before .before .put-bases .ensures .1,
+        n,
+        c .before .before .waiting-line .ensures .1 .1,
+      ),
     )
 
 pub put-report-spec : {M : Type 1} → statement M

@@ -35,13 +35,21 @@ same-length c = search needs
 
 returns : tie.Need-returns
 unfolding finalText
-returns c = let l = now (c .before .before .before .before .before .before .before .before .before .before .before .before .before .before .before .before .args .ids) in
+returns c = let l = now (c .before .before
+    .before .before .before .before .before .before .before .before .before .before .before .before .before .before .args .ids) in
     let few = few-digits 9 (c .before .before .before .leader-of .result) (omega arith) in
     let most = c .before .before .before .before .before .before .before .before .before .before .before .before .put-list .ensures .1 in
-    let A = put-next leaderText (c .before .before .before .before .before .before .before .before .before .before .before .before .put-list .ensures .0) (omega (arith, most)) (c .before .before .before .before .before .before .before .put-text .ensures .0) (c .before .before .before .before .before .before .before .put-text .ensures .1) in
-    let far = step leaderText (c .before .before .before .before .before .before .before .before .before .before .before .before .put-list .ensures .0) A in
-    let P = put-next (decimalText (c .before .before .before .leader-of .result)) A (omega (arith, most, far)) (c .before .before .put-decimal .ensures .0) (c .before .before .put-decimal .ensures .1) in
-    (put-as (ap (λ (v : ℕ). (listText l ++ leaderText) ++ decimalText v) (c .before .before .before .leader-of .ensures)) P, omega (arith, most, far, step (decimalText (c .before .before .before .leader-of .result)) A P))
+    let A = put-next leaderText
+    (c .before .before .before .before .before .before .before .before .before .before .before .before .put-list .ensures .0)
+    (omega (arith, most)) (c .before .before .before .before .before .before .before .put-text .ensures .0)
+    (c .before .before .before .before .before .before .before .put-text .ensures .1) in
+    let far = step leaderText
+    (c .before .before .before .before .before .before .before .before .before .before .before .before .put-list .ensures .0) A in
+    let P = put-next (decimalText (c .before .before .before .leader-of .result))
+    A (omega (arith, most, far)) (c .before .before .put-decimal .ensures .0) (c .before .before .put-decimal .ensures .1) in (
+      put-as (ap (λ (v : ℕ). (listText l ++ leaderText) ++ decimalText v) (c .before .before .before .leader-of .ensures)) P,
+      omega (arith, most, far, step (decimalText (c .before .before .before .leader-of .result)) A P),
+    )
 
 pub put-final-spec : {M : Type 1} → statement M
 put-final-spec =

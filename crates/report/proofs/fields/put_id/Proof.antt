@@ -20,9 +20,12 @@ same-length : tie.Need-same-length
 same-length c = search needs
 
 returns : tie.Need-returns
-returns c = let few = few-digits 9 (c .before .before .before .before .before .before .before .before .before .before .args .id) (omega arith) in
-    let A = put-fits (omega arith) (c .before .before .before .before .before .before .put-text .ensures .0) (c .before .before .before .before .before .before .put-text .ensures .1) in
-    let P = put-next (decimalText (c .before .before .before .before .before .before .before .before .before .before .args .id)) A (omega (arith, A .past)) (c .before .before .put-decimal .ensures .0) (c .before .before .put-decimal .ensures .1) in
+returns c = let few = few-digits
+    9 (c .before .before .before .before .before .before .before .before .before .before .args .id) (omega arith) in
+    let A = put-fits (omega arith) (c .before .before .before .before .before .before .put-text .ensures .0)
+    (c .before .before .before .before .before .before .put-text .ensures .1) in
+    let P = put-next (decimalText (c .before .before .before .before .before .before .before .before .before .before .args .id))
+    A (omega (arith, A .past)) (c .before .before .put-decimal .ensures .0) (c .before .before .put-decimal .ensures .1) in
     (P, omega (arith, P .past))
 
 pub put-id-spec : {M : Type 1} → statement M

@@ -12,7 +12,8 @@ use Rattle.report.proofs.fields.put_list.Statement.{statement}
 use Rattle.report.proofs.fields.put_list.Tie as tie
 
 abbrev Inv-loop : tie.InvT-loop
-Inv-loop out₀ at ids end₀ i₀ out end i = (i ≤ length ids) × ((end ≤ at + 11 * i) × ((length out ≡ length out₀) × Put out₀ at (listText (take i ids)) out end))
+Inv-loop out₀ at ids end₀ i₀ out end i =
+    (i ≤ length ids) × ((end ≤ at + 11 * i) × ((length out ≡ length out₀) × Put out₀ at (listText (take i ids)) out end))
 
 abbrev μ-loop : tie.MeasureT-loop
 μ-loop out₀ at ids end₀ i₀ out end i = length ids - i
@@ -36,8 +37,17 @@ loop-less : tie.Need-loop-less Inv-loop μ-loop
 loop-less c = search needs
 
 loop-again : tie.Need-loop-again Inv-loop μ-loop
-loop-again c = let I = c .before .before .before .before .before .before .loop .inv in
-    (omega arith, (omega (arith, c .before .before .put-id .ensures .1), (c .before .before .put-id .kept .0 ∙ I .1 .1 .0, put-as (list-more _ _ (c .before .before .before .before .before .loop-test .taken)) (put-then (I .1 .1 .1) (c .before .before .put-id .ensures .0)))))
+loop-again c = let I = c .before .before .before .before .before .before .loop .inv in (
+  omega arith,
+  (
+    omega (arith, c .before .before .put-id .ensures .1),
+    (
+      c .before .before .put-id .kept .0 ∙ I .1 .1 .0,
+      put-as (list-more _ _ (c .before .before .before .before .before .loop-test .taken))
+          (put-then (I .1 .1 .1) (c .before .before .put-id .ensures .0)),
+    ),
+  ),
+)
 
 same-length : tie.Need-same-length Inv-loop μ-loop
 same-length c = c .before .loop .inv .1 .1 .0

@@ -34,8 +34,11 @@ same-length-2 c = search needs
 
 returns-2 : tie.Need-returns-2
 unfolding stateText
-returns-2 c = let A = put-fits (omega arith) (c .before .before .put-text2 .ensures .0) (c .before .before .put-text2 .ensures .1) in
-    (put-as (chosen-no _ (ne-eqb _ _ (c .before .before .before .before .before .before .if1 .left)) (chosen-yes _ (eq-eqb _ _ (c .before .before .before .before .before .if2 .taken)) refl)) A, omega (arith, A .past))
+returns-2 c = let A = put-fits (omega arith) (c .before .before .put-text2 .ensures .0) (c .before .before .put-text2 .ensures .1) in (
+  put-as (chosen-no _ (ne-eqb _ _ (c .before .before .before .before .before .before .if1 .left))
+      (chosen-yes _ (eq-eqb _ _ (c .before .before .before .before .before .if2 .taken)) refl)) A,
+  omega (arith, A .past),
+)
 
 slice-aggregate-put-stopped : tie.Need-slice-aggregate-put-stopped
 slice-aggregate-put-stopped c = search needs
@@ -48,7 +51,13 @@ same-length-3 c = search needs
 
 returns-3 : tie.Need-returns-3
 unfolding stateText
-returns-3 c = (put-as (chosen-no _ (ne-eqb _ _ (c .before .before .before .before .before .before .before .if1 .left)) (chosen-no _ (ne-eqb _ _ (c .before .before .before .before .before .before .if2 .left)) (chosen-yes _ (eq-eqb _ _ (c .before .before .before .before .before .if3 .taken)) refl))) (c .before .before .put-stopped .ensures .0), omega (arith, c .before .before .put-stopped .ensures .1))
+returns-3 c = (
+  put-as (chosen-no _ (ne-eqb _ _ (c .before .before .before .before .before .before .before .if1 .left))
+      (chosen-no _ (ne-eqb _ _ (c .before .before .before .before .before .before .if2 .left))
+      (chosen-yes _ (eq-eqb _ _ (c .before .before .before .before .before .if3 .taken)) refl)))
+      (c .before .before .put-stopped .ensures .0),
+  omega (arith, c .before .before .put-stopped .ensures .1),
+)
 
 slice-aggregate-put-stopped-2 : tie.Need-slice-aggregate-put-stopped-2
 slice-aggregate-put-stopped-2 c = search needs
@@ -61,7 +70,13 @@ same-length-4 c = search needs
 
 returns-4 : tie.Need-returns-4
 unfolding stateText
-returns-4 c = (put-as (chosen-no _ (ne-eqb _ _ (c .before .before .before .before .before .before .before .if1 .left)) (chosen-no _ (ne-eqb _ _ (c .before .before .before .before .before .before .if2 .left)) (chosen-no _ (ne-eqb _ _ (c .before .before .before .before .before .if3 .left)) refl))) (c .before .before .put-stopped2 .ensures .0), omega (arith, c .before .before .put-stopped2 .ensures .1))
+returns-4 c = (
+  put-as (chosen-no _ (ne-eqb _ _ (c .before .before .before .before .before .before .before .if1 .left))
+      (chosen-no _ (ne-eqb _ _ (c .before .before .before .before .before .before .if2 .left))
+      (chosen-no _ (ne-eqb _ _ (c .before .before .before .before .before .if3 .left)) refl)))
+      (c .before .before .put-stopped2 .ensures .0),
+  omega (arith, c .before .before .put-stopped2 .ensures .1),
+)
 
 pub put-state-spec : {M : Type 1} → statement M
 put-state-spec =

@@ -22,12 +22,15 @@ sized c = base-sized (c .before .before .before .before .args .base) _ (c .befor
 room : (c : tie.After-size-of) → c .size-of .result ≤ length (c .before .before .before .before .args .base .«final_list»)
 room c = omega (arith, sized c, c .size-of .ensures)
 
-count-is : (c : tie.After-size-of) → length (take (c .size-of .result) (c .before .before .before .before .args .base .«final_list»)) ≡ c .size-of .result
+count-is : (c : tie.After-size-of)
+    → length (take (c .size-of .result) (c .before .before .before .before .args .base .«final_list»)) ≡ c .size-of .result
 count-is c = length-take-le (c .size-of .result) (c .before .before .before .before .args .base .«final_list») (room c)
 
-list-is : (c : tie.After-size-of) → take (c .size-of .result) (c .before .before .before .before .args .base .«final_list») ≡ finalList (c .before .before .before .before .args .base)
+list-is : (c : tie.After-size-of) → take (c .size-of .result) (c .before .before .before .before .args .base .«final_list»)
+    ≡ finalList (c .before .before .before .before .args .base)
 unfolding finalList
-list-is c = take-least (c .before .before .before .before .args .base .n) (c .size-of .result) mostBases (c .before .before .before .before .args .base .«final_list») (sized c) (c .size-of .ensures)
+list-is c = take-least (c .before .before .before .before .args .base .n)
+    (c .size-of .result) mostBases (c .before .before .before .before .args .base .«final_list») (sized c) (c .size-of .ensures)
 
 size-of-requires : tie.Need-size-of-requires
 size-of-requires c κs = search needs
@@ -42,16 +45,32 @@ slice-aggregate-put-final : tie.Need-slice-aggregate-put-final
 slice-aggregate-put-final c = sym (count-is (c .before .before .before .before .before .before))
 
 put-final-requires : tie.Need-put-final-requires
-put-final-requires c κs = omega (arith, count-is (c .before .before .before .before .before .before), c .before .before .before .before .before .before .size-of .ensures, (put-fits (omega arith) (c .before .before .before .before .put-text .ensures .0) (c .before .before .before .before .put-text .ensures .1)) .past)
+put-final-requires c κs = omega (
+  arith,
+  count-is (c .before .before .before .before .before .before),
+  c .before .before .before .before .before .before .size-of .ensures,
+  (put-fits (omega arith)
+      (c .before .before .before .before .put-text .ensures .0) (c .before .before .before .before .put-text .ensures .1)) .past,
+)
 
 same-length : tie.Need-same-length
 same-length c = search needs
 
 returns : tie.Need-returns
-returns c = let A = put-fits (omega arith) (c .before .before .before .before .before .before .before .put-text .ensures .0) (c .before .before .before .before .before .before .before .put-text .ensures .1) in (
-  put-as (ap (λ (l : List ℕ). now (c .before .before .before .before .before .before .before .before .before .before .before .before .before .args .word) ++ finalText l) (list-is (c .before .before .before .before .before .before .before .before .before))) (put-then A (c .before .before .put-final .ensures .0)),
-  omega (arith, A .past, count-is (c .before .before .before .before .before .before .before .before .before), c .before .before .before .before .before .before .before .before .before .size-of .ensures, c .before .before .put-final .ensures .1),
-)
+returns c = let A = put-fits (omega arith) (c .before .before .before .before .before .before .before .put-text .ensures .0)
+    (c .before .before .before .before .before .before .before .put-text .ensures .1) in (
+      put-as (ap (λ (l : List ℕ).
+          now (c .before .before .before .before .before .before .before .before .before .before .before .before .before .args .word)
+          ++ finalText l) (list-is (c .before .before .before .before .before .before .before .before .before)))
+          (put-then A (c .before .before .put-final .ensures .0)),
+      omega (
+        arith,
+        A .past,
+        count-is (c .before .before .before .before .before .before .before .before .before),
+        c .before .before .before .before .before .before .before .before .before .size-of .ensures,
+        c .before .before .put-final .ensures .1,
+      ),
+    )
 
 pub put-stopped-spec : {M : Type 1} → statement M
 put-stopped-spec =

@@ -18,10 +18,20 @@ put-decimal-requires : tie.Need-put-decimal-requires
 put-decimal-requires c κs = search needs
 
 put-state-requires : tie.Need-put-state-requires
-put-state-requires c κs = let few = few-digits 2 (c .before .before .before .before .before .before .before .before .before .before .before .args .number) (omega arith) in
-    let A = put-fits (omega arith) (c .before .before .before .before .before .before .before .put-text .ensures .0) (c .before .before .before .before .before .before .before .put-text .ensures .1) in
-    let B = put-next (decimalText (c .before .before .before .before .before .before .before .before .before .before .before .args .number)) A (omega (arith, A .past)) (c .before .before .before .put-decimal .ensures .0) (c .before .before .before .put-decimal .ensures .1) in
-    omega (arith, A .past, step (decimalText (c .before .before .before .before .before .before .before .before .before .before .before .args .number)) A B, text-length B)
+put-state-requires c κs = let few = few-digits
+    2 (c .before .before .before .before .before .before .before .before .before .before .before .args .number) (omega arith) in
+    let A = put-fits (omega arith) (c .before .before .before .before .before .before .before .put-text .ensures .0)
+    (c .before .before .before .before .before .before .before .put-text .ensures .1) in
+    let B = put-next
+    (decimalText (c .before .before .before .before .before .before .before .before .before .before .before .args .number)) A (omega
+    (arith, A .past)) (c .before .before .before .put-decimal .ensures .0) (c .before .before .before .put-decimal .ensures .1) in
+    omega (
+      arith,
+      A .past,
+      step (decimalText
+          (c .before .before .before .before .before .before .before .before .before .before .before .args .number)) A B,
+      text-length B,
+    )
 
 slice-aggregate-put-text-2 : tie.Need-slice-aggregate-put-text-2
 slice-aggregate-put-text-2 c = search needs
@@ -34,12 +44,21 @@ same-length c = search needs
 
 returns : tie.Need-returns
 unfolding baseLine
-returns c = let few = few-digits 2 (c .before .before .before .before .before .before .before .before .before .before .before .before .before .before .before .before .before .before .before .args .number) (omega arith) in
-    let A = put-fits (omega arith) (c .before .before .before .before .before .before .before .before .before .before .before .before .before .before .before .put-text .ensures .0) (c .before .before .before .before .before .before .before .before .before .before .before .before .before .before .before .put-text .ensures .1) in
-    let B = put-next (decimalText (c .before .before .before .before .before .before .before .before .before .before .before .before .before .before .before .before .before .before .before .args .number)) A (omega (arith, A .past)) (c .before .before .before .before .before .before .before .before .before .before .before .put-decimal .ensures .0) (c .before .before .before .before .before .before .before .before .before .before .before .put-decimal .ensures .1) in
-    let far = step (decimalText (c .before .before .before .before .before .before .before .before .before .before .before .before .before .before .before .before .before .before .before .args .number)) A B in
+returns c = let few = few-digits 2 (c .before .before .before .before .before .before .before
+    .before .before .before .before .before .before .before .before .before .before .before .before .args .number) (omega arith) in
+    let A = put-fits (omega arith) (c .before .before .before .before .before .before
+    .before .before .before .before .before .before .before .before .before .put-text .ensures .0) (c .before .before .before
+    .before .before .before .before .before .before .before .before .before .before .before .before .put-text .ensures .1) in
+    let B = put-next (decimalText (c .before .before .before .before .before .before .before .before .before
+    .before .before .before .before .before .before .before .before .before .before .args .number)) A (omega (arith, A .past))
+    (c .before .before .before .before .before .before .before .before .before .before .before .put-decimal .ensures .0)
+    (c .before .before .before .before .before .before .before .before .before .before .before .put-decimal .ensures .1) in
+    let far = step (decimalText (c .before .before .before .before .before .before .before
+    .before .before .before .before .before .before .before .before .before .before .before .before .args .number)) A B in
     let C = put-then B (c .before .before .before .before .before .before .before .put-state .ensures .0) in
-    let P = put-next feed C (omega (arith, A .past, far, c .before .before .before .before .before .before .before .put-state .ensures .1)) (c .before .before .put-text2 .ensures .0) (c .before .before .put-text2 .ensures .1) in
+    let P = put-next
+    feed C (omega (arith, A .past, far, c .before .before .before .before .before .before .before .put-state .ensures .1))
+    (c .before .before .put-text2 .ensures .0) (c .before .before .put-text2 .ensures .1) in
     (P, omega (arith, A .past, far, c .before .before .before .before .before .before .before .put-state .ensures .1, step feed C P))
 
 pub put-base-spec : {M : Type 1} → statement M

@@ -37,15 +37,33 @@ same-length c = search needs
 
 returns : tie.Need-returns
 unfolding refusedLine
-returns c = let few = most-digits (c .before .before .before .before .before .before .before .before .before .before .before .before .before .before .before .before .before .before .before .before .before .before .before .before .args .number) in let most = most-digits (c .before .before .before .before .before .before .before .before .before .before .before .before .before .before .before .before .before .before .before .before .before .before .before .before .args .line) in
-    let A = put-fits (omega arith) (c .before .before .before .before .before .before .before .before .before .before .before .before .before .before .before .before .before .before .before .before .put-text .ensures .0) (c .before .before .before .before .before .before .before .before .before .before .before .before .before .before .before .before .before .before .before .before .put-text .ensures .1) in
-    let B = put-next (decimalText (c .before .before .before .before .before .before .before .before .before .before .before .before .before .before .before .before .before .before .before .before .before .before .before .before .args .number)) A (omega (arith, A .past)) (c .before .before .before .before .before .before .before .before .before .before .before .before .before .before .before .before .put-decimal .ensures .0) (c .before .before .before .before .before .before .before .before .before .before .before .before .before .before .before .before .put-decimal .ensures .1) in
-    let b = step (decimalText (c .before .before .before .before .before .before .before .before .before .before .before .before .before .before .before .before .before .before .before .before .before .before .before .before .args .number)) A B in
-    let C = put-next lineText B (omega (arith, A .past, b)) (c .before .before .before .before .before .before .before .before .before .before .before .put-text2 .ensures .0) (c .before .before .before .before .before .before .before .before .before .before .before .put-text2 .ensures .1) in
+returns c = let few = most-digits (c .before .before .before .before .before .before .before .before .before .before .before
+    .before .before .before .before .before .before .before .before .before .before .before .before .before .args .number) in
+    let most = most-digits (c .before .before .before .before .before .before .before .before .before .before
+    .before .before .before .before .before .before .before .before .before .before .before .before .before .before .args .line) in
+    let A = put-fits (omega arith) (c .before .before .before .before .before .before .before .before
+    .before .before .before .before .before .before .before .before .before .before .before .before .put-text .ensures .0)
+    (c .before .before .before .before .before .before .before .before
+    .before .before .before .before .before .before .before .before .before .before .before .before .put-text .ensures .1) in
+    let B = put-next (decimalText (c .before .before .before .before .before .before .before .before .before .before .before
+    .before .before .before .before .before .before .before .before .before .before .before .before .before .args .number))
+    A (omega (arith, A .past)) (c .before .before .before .before .before .before .before .before
+    .before .before .before .before .before .before .before .before .put-decimal .ensures .0) (c .before .before .before .before
+    .before .before .before .before .before .before .before .before .before .before .before .before .put-decimal .ensures .1) in
+    let b = step (decimalText (c .before .before .before .before .before .before .before .before .before .before .before .before
+    .before .before .before .before .before .before .before .before .before .before .before .before .args .number)) A B in
+    let C = put-next lineText B (omega (arith, A .past, b))
+    (c .before .before .before .before .before .before .before .before .before .before .before .put-text2 .ensures .0)
+    (c .before .before .before .before .before .before .before .before .before .before .before .put-text2 .ensures .1) in
     let d = step lineText B C in
-    let D = put-next (decimalText (c .before .before .before .before .before .before .before .before .before .before .before .before .before .before .before .before .before .before .before .before .before .before .before .before .args .line)) C (omega (arith, A .past, b, d)) (c .before .before .before .before .before .before .before .put-decimal2 .ensures .0) (c .before .before .before .before .before .before .before .put-decimal2 .ensures .1) in
-    let far = step (decimalText (c .before .before .before .before .before .before .before .before .before .before .before .before .before .before .before .before .before .before .before .before .before .before .before .before .args .line)) C D in
-    let P = put-next feed D (omega (arith, A .past, b, d, far)) (c .before .before .put-text3 .ensures .0) (c .before .before .put-text3 .ensures .1) in
+    let D = put-next (decimalText (c .before .before .before .before .before .before .before .before .before .before .before
+    .before .before .before .before .before .before .before .before .before .before .before .before .before .args .line))
+    C (omega (arith, A .past, b, d)) (c .before .before .before .before .before .before .before .put-decimal2 .ensures .0)
+    (c .before .before .before .before .before .before .before .put-decimal2 .ensures .1) in
+    let far = step (decimalText (c .before .before .before .before .before .before .before .before .before .before .before .before
+    .before .before .before .before .before .before .before .before .before .before .before .before .args .line)) C D in
+    let P = put-next feed D (omega (arith, A .past, b, d, far))
+    (c .before .before .put-text3 .ensures .0) (c .before .before .put-text3 .ensures .1) in
     (P, omega (arith, A .past, b, d, far, step feed D P))
 
 pub put-refused-spec : {M : Type 1} → statement M

@@ -28,11 +28,20 @@ same-length c = search needs
 
 returns : tie.Need-returns
 unfolding waitingLine
-returns c = let few = most-digits (c .before .before .before .before .before .before .before .before .before .before .before .before .before .before .before .args .count) in
-    let A = put-fits (omega arith) (c .before .before .before .before .before .before .before .before .before .before .before .put-text .ensures .0) (c .before .before .before .before .before .before .before .before .before .before .before .put-text .ensures .1) in
-    let B = put-next (decimalText (c .before .before .before .before .before .before .before .before .before .before .before .before .before .before .before .args .count)) A (omega (arith, A .past)) (c .before .before .before .before .before .before .before .put-decimal .ensures .0) (c .before .before .before .before .before .before .before .put-decimal .ensures .1) in
-    let far = step (decimalText (c .before .before .before .before .before .before .before .before .before .before .before .before .before .before .before .args .count)) A B in
-    let P = put-next feed B (omega (arith, A .past, far)) (c .before .before .put-text2 .ensures .0) (c .before .before .put-text2 .ensures .1) in
+returns c = let few = most-digits
+    (c .before .before .before .before .before .before .before .before .before .before .before .before .before .before .before .args .count)
+    in
+    let A = put-fits (omega arith)
+    (c .before .before .before .before .before .before .before .before .before .before .before .put-text .ensures .0)
+    (c .before .before .before .before .before .before .before .before .before .before .before .put-text .ensures .1) in
+    let B = put-next (decimalText (c .before .before
+    .before .before .before .before .before .before .before .before .before .before .before .before .before .args .count))
+    A (omega (arith, A .past)) (c .before .before .before .before .before .before .before .put-decimal .ensures .0)
+    (c .before .before .before .before .before .before .before .put-decimal .ensures .1) in
+    let far = step (decimalText (c .before .before .before
+    .before .before .before .before .before .before .before .before .before .before .before .before .args .count)) A B in
+    let P = put-next feed B (omega (arith, A .past, far))
+    (c .before .before .put-text2 .ensures .0) (c .before .before .put-text2 .ensures .1) in
     (P, omega (arith, A .past, far, step feed B P))
 
 pub put-waiting-spec : {M : Type 1} → statement M

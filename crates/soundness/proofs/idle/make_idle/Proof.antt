@@ -27,10 +27,12 @@ returns c = let e = c .before .before .setting-refusal .ensures in
     ap₂ made e (chosen-no _ (ne-eqb _ 0 (λ z. c .before .if1 .taken (e ∙ z))) (c .idle-base .ensures))
 
 cast-idle-base : tie.Need-cast-idle-base
-cast-idle-base c = let a = c .before .before .args in let p = setting-passed (a .n) (a .t) (a .own) (sym (c .before .setting-refusal .ensures) ∙ c .if1 .left) in omega (arith, p .0 .most)
+cast-idle-base c = let a = c .before .before .args in
+    let p = setting-passed (a .n) (a .t) (a .own) (sym (c .before .setting-refusal .ensures) ∙ c .if1 .left) in omega (arith, p .0 .most)
 
 cast-idle-base-2 : tie.Need-cast-idle-base-2
-cast-idle-base-2 c = let a = c .before .before .args in let p = setting-passed (a .n) (a .t) (a .own) (sym (c .before .setting-refusal .ensures) ∙ c .if1 .left) in omega (arith, p .0 .most, p .1)
+cast-idle-base-2 c = let a = c .before .before .args in let p = setting-passed
+    (a .n) (a .t) (a .own) (sym (c .before .setting-refusal .ensures) ∙ c .if1 .left) in omega (arith, p .0 .most, p .1)
 
 idle-base-requires-2 : tie.Need-idle-base-requires-2
 idle-base-requires-2 c κs = search needs

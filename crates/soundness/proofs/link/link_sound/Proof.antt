@@ -18,7 +18,8 @@ held-count-requires c κs = search needs
 
 returns : tie.Need-returns
 unfolding linkSound
-returns c = let a = c .before .before .args in and-fails _ (lt-leb (used (a .link)) (a .n + 1) (omega (arith, c .before .held-count .ensures)))
+returns c = let a = c .before .before .args in
+    and-fails _ (lt-leb (used (a .link)) (a .n + 1) (omega (arith, c .before .held-count .ensures)))
 
 verifies-sound-requires : tie.Need-verifies-sound-requires
 verifies-sound-requires c κs = search needs
@@ -26,7 +27,8 @@ verifies-sound-requires c κs = search needs
 returns-2 : tie.Need-returns-2
 unfolding linkSound
 returns-2 c = let a = c .before .before .before .before .args in
-    and-goes-on (le-leb (used (a .link)) (a .n + 1) (omega (arith, c .before .before .before .held-count .ensures))) (and-fails _ (sym (c .before .verifies-sound .ensures) ∙ not-true _ (c .if2 .taken)))
+    and-goes-on (le-leb (used (a .link)) (a .n + 1) (omega (arith, c .before .before .before .held-count .ensures)))
+    (and-fails _ (sym (c .before .verifies-sound .ensures) ∙ not-true _ (c .if2 .taken)))
 
 held-sound-requires : tie.Need-held-sound-requires
 held-sound-requires c κs = search needs
@@ -34,7 +36,8 @@ held-sound-requires c κs = search needs
 returns-3 : tie.Need-returns-3
 unfolding linkSound
 returns-3 c = let a = c .before .before .before .before .before .args in
-    and-goes-on (le-leb (used (a .link)) (a .n + 1) (omega (arith, c .before .before .before .before .held-count .ensures))) (and-goes-on (sym (c .before .before .verifies-sound .ensures) ∙ not-false _ (c .before .if2 .left)) (c .held-sound .ensures))
+    and-goes-on (le-leb (used (a .link)) (a .n + 1) (omega (arith, c .before .before .before .before .held-count .ensures)))
+    (and-goes-on (sym (c .before .before .verifies-sound .ensures) ∙ not-false _ (c .before .if2 .left)) (c .held-sound .ensures))
 
 pub link-sound-spec : {M : Type 1} → statement M
 link-sound-spec =

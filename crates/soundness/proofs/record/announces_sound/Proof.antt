@@ -16,7 +16,8 @@ differ-requires c κs = search needs
 
 returns : tie.Need-returns
 unfolding announcesSound
-returns c = c .differ .ensures ∙ ap distinct (listed (certified (c .before .before .before .before .before .args .base)) _ (c .before .before .before .before .certified-ids .ensures))
+returns c = c .differ .ensures ∙ ap distinct (listed (certified (c .before .before .before .before .before .args .base))
+    _ (c .before .before .before .before .certified-ids .ensures))
 
 pub announces-sound-spec : {M : Type 1} → statement M
 announces-sound-spec = tie.close (tie.spec certified-ids-requires differ-requires returns)

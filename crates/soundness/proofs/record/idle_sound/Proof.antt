@@ -20,7 +20,8 @@ links-empty-requires c κs = search needs
 
 returns-3 : tie.Need-returns-3
 unfolding idleSound idle
-returns-3 c = chosen-yes _ (eq-eqb _ _ (c .before .before .before .if1 .left)) (and-goes-on (eq-eqb _ _ (c .before .if2 .left)) (c .links-empty .ensures))
+returns-3 c = chosen-yes _
+    (eq-eqb _ _ (c .before .before .before .if1 .left)) (and-goes-on (eq-eqb _ _ (c .before .if2 .left)) (c .links-empty .ensures))
 
 pub idle-sound-spec : {M : Type 1} → statement M
 idle-sound-spec = tie.close (tie.spec returns returns-2 links-empty-requires returns-3)

@@ -35,16 +35,22 @@ link-empty-requires c κs = search needs
 
 returns : tie.Need-returns Inv-loop μ-loop
 unfolding linksEmpty linkAt
-returns c = let base = c .before .before .before .before .before .args .t1 in let l = c .before .before .before .before .loop in let e : l .i ≡ l .i - 1 + 1 = omega arith in
-    sym (l .inv .1 ∙ ap (λ (k : ℕ). all k (λ j. linkEmpty (linkAt base j))) e ∙ all-broken (λ j. linkEmpty (linkAt base j)) (l .i - 1) (sym (c .before .link-empty .ensures) ∙ not-true _ (c .if1 .taken)))
+returns c = let base = c .before .before .before .before .before .args .t1 in
+    let l = c .before .before .before .before .loop in let e : l .i ≡ l .i - 1 + 1 = omega arith in
+    sym (l .inv .1 ∙ ap (λ (k : ℕ). all k (λ j. linkEmpty (linkAt base j))) e
+    ∙ all-broken (λ j. linkEmpty (linkAt base j)) (l .i - 1) (sym (c .before .link-empty .ensures) ∙ not-true _ (c .if1 .taken)))
 
 loop-less : tie.Need-loop-less Inv-loop μ-loop
 loop-less c = omega arith
 
 loop-again : tie.Need-loop-again Inv-loop μ-loop
 unfolding linkAt
-loop-again c = let base = c .before .before .before .before .before .args .t1 in let l = c .before .before .before .before .loop in let e : l .i ≡ l .i - 1 + 1 = omega arith in
-    (omega arith, l .inv .1 ∙ ap (λ (k : ℕ). all k (λ j. linkEmpty (linkAt base j))) e ∙ all-goes-on (λ j. linkEmpty (linkAt base j)) (l .i - 1) (sym (c .before .link-empty .ensures) ∙ not-false _ (c .if1 .left)))
+loop-again c = let base = c .before .before .before .before .before .args .t1 in
+    let l = c .before .before .before .before .loop in let e : l .i ≡ l .i - 1 + 1 = omega arith in (
+      omega arith,
+      l .inv .1 ∙ ap (λ (k : ℕ). all k (λ j. linkEmpty (linkAt base j))) e
+          ∙ all-goes-on (λ j. linkEmpty (linkAt base j)) (l .i - 1) (sym (c .before .link-empty .ensures) ∙ not-false _ (c .if1 .left)),
+    )
 
 returns-2 : tie.Need-returns-2 Inv-loop μ-loop
 unfolding linksEmpty all

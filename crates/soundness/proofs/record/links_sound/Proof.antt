@@ -13,7 +13,8 @@ use Rattle.soundness.proofs.record.links_sound.Statement.{statement}
 use Rattle.soundness.proofs.record.links_sound.Tie as tie
 
 abbrev Inv-loop : tie.InvT-loop
-Inv-loop base i₀ i = (i ≤ mostLinks) × (all mostLinks (λ j. placeSound (base .n) j (linkAt base j)) ≡ all i (λ j. placeSound (base .n) j (linkAt base j)))
+Inv-loop base i₀ i = (i ≤ mostLinks)
+    × (all mostLinks (λ j. placeSound (base .n) j (linkAt base j)) ≡ all i (λ j. placeSound (base .n) j (linkAt base j)))
 
 abbrev μ-loop : tie.MeasureT-loop
 μ-loop base i₀ i = i
@@ -35,16 +36,22 @@ place-sound-requires c κs = search needs
 
 returns : tie.Need-returns Inv-loop μ-loop
 unfolding linksSound linkAt
-returns c = let base = c .before .before .before .before .before .args .t1 in let l = c .before .before .before .before .loop in let e : l .i ≡ l .i - 1 + 1 = omega arith in
-    sym (l .inv .1 ∙ ap (λ (k : ℕ). all k (λ j. placeSound (base .n) j (linkAt base j))) e ∙ all-broken (λ j. placeSound (base .n) j (linkAt base j)) (l .i - 1) (sym (c .before .place-sound .ensures) ∙ not-true _ (c .if1 .taken)))
+returns c = let base = c .before .before .before .before .before .args .t1 in
+    let l = c .before .before .before .before .loop in let e : l .i ≡ l .i - 1 + 1 = omega arith in
+    sym (l .inv .1 ∙ ap (λ (k : ℕ). all k (λ j. placeSound (base .n) j (linkAt base j))) e ∙ all-broken
+    (λ j. placeSound (base .n) j (linkAt base j)) (l .i - 1) (sym (c .before .place-sound .ensures) ∙ not-true _ (c .if1 .taken)))
 
 loop-less : tie.Need-loop-less Inv-loop μ-loop
 loop-less c = omega arith
 
 loop-again : tie.Need-loop-again Inv-loop μ-loop
 unfolding linkAt
-loop-again c = let base = c .before .before .before .before .before .args .t1 in let l = c .before .before .before .before .loop in let e : l .i ≡ l .i - 1 + 1 = omega arith in
-    (omega arith, l .inv .1 ∙ ap (λ (k : ℕ). all k (λ j. placeSound (base .n) j (linkAt base j))) e ∙ all-goes-on (λ j. placeSound (base .n) j (linkAt base j)) (l .i - 1) (sym (c .before .place-sound .ensures) ∙ not-false _ (c .if1 .left)))
+loop-again c = let base = c .before .before .before .before .before .args .t1 in
+    let l = c .before .before .before .before .loop in let e : l .i ≡ l .i - 1 + 1 = omega arith in (
+      omega arith,
+      l .inv .1 ∙ ap (λ (k : ℕ). all k (λ j. placeSound (base .n) j (linkAt base j))) e ∙ all-goes-on
+          (λ j. placeSound (base .n) j (linkAt base j)) (l .i - 1) (sym (c .before .place-sound .ensures) ∙ not-false _ (c .if1 .left)),
+    )
 
 returns-2 : tie.Need-returns-2 Inv-loop μ-loop
 unfolding linksSound all

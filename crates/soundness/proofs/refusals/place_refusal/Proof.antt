@@ -17,22 +17,29 @@ returns c = let e = c .before .record-refusal .ensures in e ∙ sym (first-given
 
 returns-2 : tie.Need-returns-2
 unfolding placeRefusal
-returns-2 c = let e = link-short _ _ (c .if2 .taken) in sym (first-none _ (sym (c .before .before .record-refusal .ensures) ∙ c .before .if1 .left) ∙ first-given _ (λ z. omega (arith, e, z)) ∙ e)
+returns-2 c = let e = link-short _ _ (c .if2 .taken) in sym
+    (first-none _ (sym (c .before .before .record-refusal .ensures) ∙ c .before .if1 .left) ∙ first-given _ (λ z. omega (arith, e, z)) ∙ e)
 
 cast-if3 : tie.Need-cast-if3
 cast-if3 c = search needs
 
 returns-3 : tie.Need-returns-3
 unfolding placeRefusal
-returns-3 c = let e = link-far _ _ (c .before .before .if2 .left) (c .if3 .taken) in sym (first-none _ (sym (c .before .before .before .before .record-refusal .ensures) ∙ c .before .before .before .if1 .left) ∙ first-given _ (λ z. omega (arith, e, z)) ∙ e)
+returns-3 c = let e = link-far _ _ (c .before .before .if2 .left) (c .if3 .taken) in
+    sym (first-none _ (sym (c .before .before .before .before .record-refusal .ensures) ∙ c .before .before .before .if1 .left)
+    ∙ first-given _ (λ z. omega (arith, e, z)) ∙ e)
 
 returns-4 : tie.Need-returns-4
 unfolding placeRefusal
-returns-4 c = sym (first-none _ (sym (c .before .before .before .before .before .record-refusal .ensures) ∙ c .before .before .before .before .if1 .left) ∙ first-none _ (link-near _ _ (c .before .before .before .if2 .left) (c .before .if3 .left)) ∙ output-short _ (c .if4 .taken))
+returns-4 c = sym (first-none
+    _ (sym (c .before .before .before .before .before .record-refusal .ensures) ∙ c .before .before .before .before .if1 .left)
+    ∙ first-none _ (link-near _ _ (c .before .before .before .if2 .left) (c .before .if3 .left)) ∙ output-short _ (c .if4 .taken))
 
 returns-5 : tie.Need-returns-5
 unfolding placeRefusal
-returns-5 c = sym (first-none _ (sym (c .before .before .before .before .before .record-refusal .ensures) ∙ c .before .before .before .before .if1 .left) ∙ first-none _ (link-near _ _ (c .before .before .before .if2 .left) (c .before .if3 .left)) ∙ output-wide _ (c .if4 .left))
+returns-5 c = sym (first-none
+    _ (sym (c .before .before .before .before .before .record-refusal .ensures) ∙ c .before .before .before .before .if1 .left)
+    ∙ first-none _ (link-near _ _ (c .before .before .before .if2 .left) (c .before .if3 .left)) ∙ output-wide _ (c .if4 .left))
 
 pub place-refusal-spec : {M : Type 1} → statement M
 place-refusal-spec =

@@ -25,11 +25,13 @@ is-sound-requires c κs = search needs
 
 returns-2 : tie.Need-returns-2
 unfolding recordRefusal
-returns-2 c = chosen-yes _ (ap not (sym (c .before .is-sound .ensures)) ∙ c .if2 .taken) refl ∙ sym (first-none _ (sym (c .before .before .before .setting-refusal .ensures) ∙ c .before .before .if1 .left))
+returns-2 c = chosen-yes _ (ap not (sym (c .before .is-sound .ensures)) ∙ c .if2 .taken) refl
+    ∙ sym (first-none _ (sym (c .before .before .before .setting-refusal .ensures) ∙ c .before .before .if1 .left))
 
 returns-3 : tie.Need-returns-3
 unfolding recordRefusal
-returns-3 c = chosen-no _ (ap not (sym (c .before .is-sound .ensures)) ∙ c .if2 .left) refl ∙ sym (first-none _ (sym (c .before .before .before .setting-refusal .ensures) ∙ c .before .before .if1 .left))
+returns-3 c = chosen-no _ (ap not (sym (c .before .is-sound .ensures)) ∙ c .if2 .left) refl
+    ∙ sym (first-none _ (sym (c .before .before .before .setting-refusal .ensures) ∙ c .before .before .if1 .left))
 
 pub record-refusal-spec : {M : Type 1} → statement M
 record-refusal-spec =

@@ -1,5 +1,5 @@
--- `tally::suspects::suspect_count` meets its contract. Invariants: the count is that of the pairs among the places below i and of those with the own identifier; within, it
--- has grown by the suspect pairs of the link at place i with those below j.
+-- `tally::suspects::suspect_count` meets its contract. Invariants: the count is that of the pairs among the places below i and of
+-- those with the own identifier; within, it has grown by the suspect pairs of the link at place i with those below j.
 use Prim.Native.Nat.{ℕ, _≤_, _-_, _+_, _*_}
 use mathlib.Core.Path.{_≡_, refl, ap, _∙_}
 use native.Mathlib.Omega.{arith}
@@ -12,13 +12,15 @@ use Rattle.tally.proofs.suspects.suspect_count.Statement.{statement}
 use Rattle.tally.proofs.suspects.suspect_count.Tie as tie
 
 abbrev Inv-loop2 : tie.InvT-loop2
-Inv-loop2 base k own count₀ i link j₀ count j = (j ≤ i) × ((count ≤ count₀ + j) × (count ≡ count₀ + Sums.sum j (λ m. bit (suspectPair link (linkAt base m)))))
+Inv-loop2 base k own count₀ i link j₀ count j =
+    (j ≤ i) × ((count ≤ count₀ + j) × (count ≡ count₀ + Sums.sum j (λ m. bit (suspectPair link (linkAt base m)))))
 
 abbrev μ-loop2 : tie.MeasureT-loop2
 μ-loop2 base k own count₀ i link j₀ count j = i - j
 
 abbrev Inv-loop : tie.InvT-loop
-Inv-loop base k own count₀ i₀ count i = (i ≤ k) × ((count ≤ 15 * i) × (count ≡ Sums.sum i (λ m. Sums.sum m (λ j. bit (suspectPair (linkAt base m) (linkAt base j)))) + Sums.sum i (λ m. bit (suspectOwn own (linkAt base m)))))
+Inv-loop base k own count₀ i₀ count i = (i ≤ k) × ((count ≤ 15 * i) × (count ≡ Sums.sum i (λ m.
+    Sums.sum m (λ j. bit (suspectPair (linkAt base m) (linkAt base j)))) + Sums.sum i (λ m. bit (suspectOwn own (linkAt base m)))))
 
 abbrev μ-loop : tie.MeasureT-loop
 μ-loop base k own count₀ i₀ count i = k - i
@@ -62,7 +64,12 @@ one-requires-2 : tie.Need-one-requires-2 Inv-loop2 μ-loop2 Inv-loop μ-loop
 one-requires-2 c κs = search needs
 
 add-count-2 : tie.Need-add-count-2 Inv-loop2 μ-loop2 Inv-loop μ-loop
-add-count-2 c = omega (arith, c .one2 .ensures, c .before .before .before .before .before .one .ensures, c .before .before .before .before .before .before .before .before .before .loop .inv)
+add-count-2 c = omega (
+  arith,
+  c .one2 .ensures,
+  c .before .before .before .before .before .one .ensures,
+  c .before .before .before .before .before .before .before .before .before .loop .inv,
+)
 
 add-j : tie.Need-add-j Inv-loop2 μ-loop2 Inv-loop μ-loop
 add-j c = omega arith
@@ -72,8 +79,16 @@ loop2-less c = omega arith
 
 loop2-again : tie.Need-loop2-again Inv-loop2 μ-loop2 Inv-loop μ-loop
 unfolding linkAt
-loop2-again c = let b = c .before .before .before .before .before .before .before .before .before .before .before .args .t1 in let i = c .before .before .before .before .before .before .before .before .before .loop .i in let l = c .before .before .before .before .loop2 in let o = c .one2 .ensures in
-    (omega arith, (omega (arith, o), sum-grows (λ m. bit (suspectPair (linkAt b i) (linkAt b m))) (l .j) _ (l .count) (c .one2 .result) (l .inv .1 .1) (o .0 ∙ ap bit (c .before .suspect-pair .ensures))))
+loop2-again c = let b = c .before .before .before .before .before .before .before .before .before .before .before .args .t1 in
+    let i = c .before .before .before .before .before .before .before .before .before .loop .i in
+    let l = c .before .before .before .before .loop2 in let o = c .one2 .ensures in (
+      omega arith,
+      (
+        omega (arith, o),
+        sum-grows (λ m. bit (suspectPair (linkAt b i) (linkAt b m)))
+            (l .j) _ (l .count) (c .one2 .result) (l .inv .1 .1) (o .0 ∙ ap bit (c .before .suspect-pair .ensures)),
+      ),
+    )
 
 add-i : tie.Need-add-i Inv-loop2 μ-loop2 Inv-loop μ-loop
 add-i c = omega arith
@@ -83,15 +98,24 @@ loop-less c = omega arith
 
 loop-again : tie.Need-loop-again Inv-loop2 μ-loop2 Inv-loop μ-loop
 unfolding linkAt
-loop-again c = let b = c .before .before .before .before .before .before .before .before .args .t1 in let l = c .before .before .before .before .before .before .loop in let m = c .before .loop2 in let o = c .before .before .one .ensures in
-    let own = o .0 ∙ ap bit (c .before .before .before .suspect-own .ensures) in
-    (omega arith, (omega (arith, o, c .before .before .before .before .before .before .before .link-count .ensures), pairs-grow (λ i j. bit (suspectPair (linkAt b i) (linkAt b j))) (λ i. bit (suspectOwn (b .own) (linkAt b i))) (l .i) (m .j) (l .count) _ (m .count) (l .inv .1 .1) own (m .inv .1 .1) (omega arith)))
+loop-again c = let b = c .before .before .before .before .before .before .before .before .args .t1 in
+    let l = c .before .before .before .before .before .before .loop in
+    let m = c .before .loop2 in let o = c .before .before .one .ensures in
+    let own = o .0 ∙ ap bit (c .before .before .before .suspect-own .ensures) in (
+      omega arith,
+      (
+        omega (arith, o, c .before .before .before .before .before .before .before .link-count .ensures),
+        pairs-grow (λ i j. bit (suspectPair (linkAt b i) (linkAt b j))) (λ i. bit (suspectOwn (b .own) (linkAt b i)))
+            (l .i) (m .j) (l .count) _ (m .count) (l .inv .1 .1) own (m .inv .1 .1) (omega arith),
+      ),
+    )
 
 returns : tie.Need-returns Inv-loop2 μ-loop2 Inv-loop μ-loop
 unfolding suspects pairs links linkCount
 returns c = let b = c .before .before .before .args .t1 in let l = c .before .loop in
     let e : l .i ≡ linkCount b = unfold linkCount in omega (arith, c .before .before .link-count .ensures) in
-    l .inv .1 .1 ∙ ap (λ (i : ℕ). Sums.sum i (λ m. Sums.sum m (λ j. bit (suspectPair (linkAt b m) (linkAt b j)))) + Sums.sum i (λ m. bit (suspectOwn (b .own) (linkAt b m)))) e
+    l .inv .1 .1 ∙ ap (λ (i : ℕ). Sums.sum i (λ m. Sums.sum m (λ j. bit (suspectPair (linkAt b m) (linkAt b j))))
+    + Sums.sum i (λ m. bit (suspectOwn (b .own) (linkAt b m)))) e
 
 pub suspect-count-spec : {M : Type 1} → statement M
 suspect-count-spec =

@@ -25,7 +25,9 @@ holds-requires c κs = search needs
 
 returns-3 : tie.Need-returns-3
 unfolding holdsVerify verifiesOf
-returns-3 c = let a = c .before .before .before .before .before .before .before .args in pair-lacks (a .t1) (a .t2) (c .before .before .before .before .before .before .if1 .left) (c .before .before .before .before .before .if2 .left) (sym (c .before .holds .ensures) ∙ not-true _ (c .if3 .taken))
+returns-3 c = let a = c .before .before .before .before .before .before .before .args in
+    pair-lacks (a .t1) (a .t2) (c .before .before .before .before .before .before .if1 .left)
+    (c .before .before .before .before .before .if2 .left) (sym (c .before .holds .ensures) ∙ not-true _ (c .if3 .taken))
 
 cast-holds-2 : tie.Need-cast-holds-2
 cast-holds-2 c = search needs
@@ -35,7 +37,11 @@ holds-requires-2 c κs = search needs
 
 returns-4 : tie.Need-returns-4
 unfolding holdsVerify verifiesOf
-returns-4 c = let a = c .before .before .before .before .before .before .before .before .before .before .before .args in pair-back (a .t1) (a .t2) (c .before .before .before .before .before .before .before .before .before .before .if1 .left) (c .before .before .before .before .before .before .before .before .before .if2 .left) (sym (c .before .before .before .before .before .holds .ensures) ∙ not-false _ (c .before .before .before .before .if3 .left)) (c .holds2 .ensures)
+returns-4 c = let a = c .before .before .before .before .before .before .before .before .before .before .before .args in
+    pair-back (a .t1) (a .t2) (c .before .before .before .before .before .before .before .before .before .before .if1 .left)
+    (c .before .before .before .before .before .before .before .before .before .if2 .left)
+    (sym (c .before .before .before .before .before .holds .ensures)
+    ∙ not-false _ (c .before .before .before .before .if3 .left)) (c .holds2 .ensures)
 
 pub suspect-pair-spec : {M : Type 1} → statement M
 suspect-pair-spec =

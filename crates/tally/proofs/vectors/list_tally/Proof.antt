@@ -13,7 +13,8 @@ use Rattle.counting.specs.Sums as Sums
 use Rattle.tally.proofs.vectors.list_tally.Tie as tie
 
 abbrev Inv-loop : tie.InvT-loop
-Inv-loop v base k count₀ i₀ count i = (i ≤ k) × ((count ≤ i) × (count ≡ Sums.sum i (λ j. bit (holdsList (base .n) (linkAt base j) (take (base .n) v)))))
+Inv-loop v base k count₀ i₀ count i =
+    (i ≤ k) × ((count ≤ i) × (count ≡ Sums.sum i (λ j. bit (holdsList (base .n) (linkAt base j) (take (base .n) v)))))
 
 abbrev μ-loop : tie.MeasureT-loop
 μ-loop v base k count₀ i₀ count i = k - i
@@ -48,14 +49,23 @@ loop-less c = omega arith
 
 loop-again : tie.Need-loop-again Inv-loop μ-loop
 unfolding linkAt
-loop-again c = let a = c .before .before .before .before .before .before .args in let l = c .before .before .before .before .loop in let o = c .one .ensures in
-    (omega arith, (omega (arith, o), count-turn (λ j. holdsList (a .t1 .n) (linkAt (a .t1) j) (take (a .t1 .n) (a .v))) (l .i) (l .count) (c .one .result) (l .inv .1 .1) (o .0 ∙ ap bit (c .before .holds-list .ensures))))
+loop-again c = let a = c .before .before .before .before .before .before .args in
+    let l = c .before .before .before .before .loop in let o = c .one .ensures in (
+      omega arith,
+      (
+        omega (arith, o),
+        count-turn (λ j. holdsList (a .t1 .n) (linkAt (a .t1) j) (take (a .t1 .n) (a .v)))
+            (l .i) (l .count) (c .one .result) (l .inv .1 .1) (o .0 ∙ ap bit (c .before .holds-list .ensures)),
+      ),
+    )
 
 returns : tie.Need-returns Inv-loop μ-loop
 unfolding listTally links linkCount
 returns c = let a = c .before .before .before .args in let l = c .before .loop in
-    let e : l .i ≡ linkCount (a .t1) = unfold linkCount in omega (arith, c .before .before .link-count .ensures) in
-    (l .inv .1 .1 ∙ ap (λ (i : ℕ). Sums.sum i (λ j. bit (holdsList (a .t1 .n) (linkAt (a .t1) j) (take (a .t1 .n) (a .v))))) e, omega (arith, c .before .before .link-count .ensures))
+    let e : l .i ≡ linkCount (a .t1) = unfold linkCount in omega (arith, c .before .before .link-count .ensures) in (
+      l .inv .1 .1 ∙ ap (λ (i : ℕ). Sums.sum i (λ j. bit (holdsList (a .t1 .n) (linkAt (a .t1) j) (take (a .t1 .n) (a .v))))) e,
+      omega (arith, c .before .before .link-count .ensures),
+    )
 
 pub list-tally-spec : {M : Type 1} → statement M
 list-tally-spec =

@@ -22,7 +22,8 @@ add-result c = search needs
 
 returns : tie.Need-returns
 unfolding tally
-returns c = (ap₂ _+_ (c .before .before .verify-links .ensures .0) (c .one .ensures .0 ∙ ap bit (c .before .certifies .ensures)), omega arith)
+returns c =
+    (ap₂ _+_ (c .before .before .verify-links .ensures .0) (c .one .ensures .0 ∙ ap bit (c .before .certifies .ensures)), omega arith)
 
 pub tally-of-spec : {M : Type 1} → statement M
 tally-of-spec =

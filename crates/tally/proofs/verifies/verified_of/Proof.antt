@@ -46,8 +46,13 @@ loop-less c = omega arith
 
 loop-again : tie.Need-loop-again Inv-loop μ-loop
 unfolding holdsVerify verifiesOf
-loop-again c = let a = c .before .before .before .before .before .before .before .args in let l = c .before .before .before .before .before .before .loop in let o = c .one .ensures in let z : length (a .t2) ≡ 16 = c .before .before .before .before .before .before .before .good .1 .0 .1 .0 .1 in
-    (omega (arith, o), sum-back (a .t2) (a .count) (l .j) (l .sum) (c .one .result) (λ g. bit (holdsVerify (a .t1) g)) (omega arith) (omega arith) (omega arith) (l .inv .1) (o .0 ∙ ap bit (c .before .holds .ensures)))
+loop-again c = let a = c .before .before .before .before .before .before .before .args in
+    let l = c .before .before .before .before .before .before .loop in let o = c .one .ensures in
+    let z : length (a .t2) ≡ 16 = c .before .before .before .before .before .before .before .good .1 .0 .1 .0 .1 in (
+      omega (arith, o),
+      sum-back (a .t2) (a .count) (l .j) (l .sum) (c .one .result) (λ g. bit (holdsVerify (a .t1) g))
+          (omega arith) (omega arith) (omega arith) (l .inv .1) (o .0 ∙ ap bit (c .before .holds .ensures)),
+    )
 
 returns : tie.Need-returns Inv-loop μ-loop
 returns c = let a = c .before .before .args in let l = c .before .loop in let e : l .j ≡ 0 = omega arith in

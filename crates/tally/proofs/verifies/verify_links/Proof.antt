@@ -47,14 +47,23 @@ loop-less c = omega arith
 
 loop-again : tie.Need-loop-again Inv-loop μ-loop
 unfolding linkAt
-loop-again c = let a = c .before .before .before .before .before .before .args in let l = c .before .before .before .before .loop in let o = c .one .ensures in
-    (omega arith, (omega (arith, o), count-turn (λ j. holdsVerify (linkAt (a .t1) j) (a .g)) (l .i) (l .count) (c .one .result) (l .inv .1 .1) (o .0 ∙ ap bit (c .before .holds-verify .ensures))))
+loop-again c = let a = c .before .before .before .before .before .before .args in
+    let l = c .before .before .before .before .loop in let o = c .one .ensures in (
+      omega arith,
+      (
+        omega (arith, o),
+        count-turn (λ j. holdsVerify (linkAt (a .t1) j) (a .g))
+            (l .i) (l .count) (c .one .result) (l .inv .1 .1) (o .0 ∙ ap bit (c .before .holds-verify .ensures)),
+      ),
+    )
 
 returns : tie.Need-returns Inv-loop μ-loop
 unfolding links linkCount
 returns c = let a = c .before .before .before .args in let l = c .before .loop in
-    let e : l .i ≡ linkCount (a .t1) = unfold linkCount in omega (arith, c .before .before .link-count .ensures) in
-    (l .inv .1 .1 ∙ ap (λ (i : ℕ). Sums.sum i (λ j. bit (holdsVerify (linkAt (a .t1) j) (a .g)))) e, omega (arith, c .before .before .link-count .ensures))
+    let e : l .i ≡ linkCount (a .t1) = unfold linkCount in omega (arith, c .before .before .link-count .ensures) in (
+      l .inv .1 .1 ∙ ap (λ (i : ℕ). Sums.sum i (λ j. bit (holdsVerify (linkAt (a .t1) j) (a .g)))) e,
+      omega (arith, c .before .before .link-count .ensures),
+    )
 
 pub verify-links-spec : {M : Type 1} → statement M
 verify-links-spec =
