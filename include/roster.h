@@ -48,11 +48,11 @@ extern "C" {
 /* The most stack that a call takes, in bytes, with what its answer takes in the caller. tests/figures measures it and holds it to this. */
 #define ROSTER_STACK_IDLE 5000
 #define ROSTER_STACK_START 12000
-#define ROSTER_STACK_ARRIVE 12000
+#define ROSTER_STACK_ARRIVE 40000
 #define ROSTER_STACK_LEADER 12000
 #define ROSTER_STACK_READ 1000
 #define ROSTER_STACK_WRITE 1000
-#define ROSTER_STACK_REPLAY 200000
+#define ROSTER_STACK_REPLAY 420000
 
 enum roster_state { ROSTER_IDLE, ROSTER_RUNNING, ROSTER_PRIME, ROSTER_SECONDARY };
 enum roster_kind { ROSTER_ANNOUNCE = 1, ROSTER_VERIFY, ROSTER_CORRECT_FINAL, ROSTER_VERIFY_FINAL };
