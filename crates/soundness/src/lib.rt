@@ -1,5 +1,3 @@
-// Whether a record is sound, numbers 1 to 4, and the idle record to begin with.
+// Numbers 1 to 6 of the calls, and the idle record to begin with.
 pub mod idle;
-pub mod link;
-pub mod record;
 pub mod refusals;

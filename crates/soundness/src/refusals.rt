@@ -1,10 +1,10 @@
 // Numbers 1 to 6, in checking order. Each call makes the checks whose data it takes.
-use crate::record::is_sound;
 use limits::OUTPUT_ROOM;
 use limits::own_refusal;
 use limits::refusal;
 use limits::size_refusal;
 use protocol::Base;
+use record_soundness::is_sound;
 ghost use mathlib.Core.Path.{_≡_};
 ghost use Rattle.lists.specs.Choice.{first};
 ghost use Rattle.protocol.specs.Sound.{settingRefusal, recordRefusal};
