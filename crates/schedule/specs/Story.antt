@@ -19,6 +19,7 @@ use Rattle.schedule.specs.Header.{sizeRefusal}
 pub mod Laws
 pub mod Begins
 pub mod Tells
+pub mod Effects
 pub mod Whole
 
 -- how far a schedule has been read

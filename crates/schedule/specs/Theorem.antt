@@ -1,20 +1,50 @@
--- What the report of a schedule says, by agreement (demand 3): for every schedule that is not refused, the printed final lists are
--- the true identifiers sorted, one leader is printed, and `waiting 0` with no idle base leaves none running.
-use Prim.Native.Nat.{ℕ, _≤_}
+-- What the report of a schedule says, by agreement (demand 3), as a statement about its bytes: of every schedule that is not
+-- refused, each line of a base that has stopped is the line with the true identifiers sorted and the one leader; and `waiting 0`
+-- with no line `idle` leaves no line `running`.
+use Prim.Native.Nat.{ℕ, suc, _-_}
 use mathlib.Core.Path.{_≡_}
-use mathlib.Core.List.{List, _++_}
+use mathlib.Core.Logic.{_≢_}
+use mathlib.Core.List.{List, [], _∷_, _++_}
 use lib.Dec.{eqb}
+use lib.ListN.{length, getD}
 use Rattle.lists.specs.Choice.{choose}
 use Rattle.lists.specs.Lists.{sort}
-use Rattle.protocol.specs.Net.{waiting}
+use Rattle.print.specs.Decimal.{decimalText}
+use Rattle.lines.specs.Lines.{lineFeed}
 use Rattle.protocol.specs.Agreement.{BaseOf, trueIdentifiers}
 use Rattle.protocol.specs.Steps.{leaderOf}
-use Rattle.schedule.specs.Story.{header, meaning}
-use Rattle.schedule.specs.Report.{idleText, runningText, primeText, secondaryText, listText, leaderText, stateText}
-use Rattle.print.specs.Decimal.{decimalText}
+use Rattle.schedule.specs.Story.{header}
+use Rattle.schedule.specs.Report.{
+  baseText,
+  idleText,
+  runningText,
+  primeText,
+  secondaryText,
+  listText,
+  leaderText,
+  waitingText,
+  refusedLine,
+  report,
+}
 pub mod Histories
+pub mod States
+pub mod Lines
 pub mod Proof
 
+-- ---- the lines of a text, each without its line feed
+unfoldable pub onFirstLine : ℕ → List (List ℕ) → List (List ℕ)
+onFirstLine c [] = (c ∷ []) ∷ []
+onFirstLine c (l ∷ rest) = (c ∷ l) ∷ rest
+
+unfoldable pub linesOf : List ℕ → List (List ℕ)
+linesOf [] = []
+linesOf (c ∷ text) = choose (eqb c lineFeed) ([] ∷ linesOf text) (onFirstLine c (linesOf text))
+
+-- by its number, from 1
+unfoldable pub lineOf : List ℕ → ℕ → List ℕ
+lineOf text number = getD (linesOf text) (number - 1) []
+
+-- ---- what a line says
 -- the identifiers of the header's `id` lines
 unfoldable pub givenIds : List ℕ → List ℕ
 givenIds s = trueIdentifiers (header s .n) (header s .net)
@@ -23,26 +53,37 @@ givenIds s = trueIdentifiers (header s .n) (header s .net)
 unfoldable pub rosterText : List ℕ → List ℕ
 rosterText ids = (listText (sort ids) ++ leaderText) ++ decimalText (leaderOf ids)
 
--- what a base prints, by its state alone
-unfoldable pub agreedText : ℕ → List ℕ → List ℕ
-agreedText state ids =
-    choose (eqb state 0) idleText
-    (choose (eqb state 1) runningText
-    (choose (eqb state 2) (primeText ++ rosterText ids)
-    (secondaryText ++ rosterText ids)))
+-- `base 3` and what follows
+unfoldable pub ofBase : ℕ → List ℕ → List ℕ
+ofBase b text = (baseText ++ decimalText b) ++ text
 
-pub record Reported (s : List ℕ) : Type 0 where
-  -- the bases of the report are those of the header
-  pub bases : meaning s .n ≡ header s .n
-  -- every base prints its state, and one that has stopped prints the roster that all others print
-  pub text : (b : ℕ) → BaseOf (meaning s .n) b
-      → stateText (meaning s .net .base b) ≡ agreedText (meaning s .net .base b .state) (givenIds s)
-  pub states : (b : ℕ) → BaseOf (meaning s .n) b → meaning s .net .base b .state ≤ 3
-  -- `waiting 0`, and no base idle: every base has stopped
-  pub ends : waiting (meaning s .n) (meaning s .faulty) (meaning s .net) ≡ 0
-      → ((b : ℕ) → BaseOf (meaning s .n) b → 1 ≤ meaning s .net .base b .state)
-      → (b : ℕ) → BaseOf (meaning s .n) b → 2 ≤ meaning s .net .base b .state
+-- the line of base b of a net with the identifiers ids
+pub data SaysOf (b : ℕ) (ids line : List ℕ) : Type 0 where
+  idle : line ≡ ofBase b idleText → SaysOf b ids line
+  running : line ≡ ofBase b runningText → SaysOf b ids line
+  prime : line ≡ ofBase b (primeText ++ rosterText ids) → SaysOf b ids line
+  secondary : line ≡ ofBase b (secondaryText ++ rosterText ids) → SaysOf b ids line
 
--- the statement; Theorem/Proof proves it
+-- `waiting` and a number
+unfoldable pub ofWaiting : ℕ → List ℕ
+ofWaiting count = waitingText ++ decimalText count
+
+pub record SaysWaiting (line : List ℕ) : Type 0 where
+  pub count : ℕ
+  pub says : line ≡ ofWaiting count
+
+-- ---- the statement
+-- a text that reports a net of n bases with the identifiers ids
+pub record Reports (n : ℕ) (ids text : List ℕ) : Type 0 where
+  -- a line a base, in order of number, and one more
+  pub lines : length (linesOf text) ≡ suc n
+  -- a base that has stopped prints the roster that all others print
+  pub bases : (b : ℕ) → BaseOf n b → SaysOf b ids (lineOf text b)
+  pub waits : SaysWaiting (lineOf text (suc n))
+  -- `waiting 0`, and no line says idle: no line says running
+  pub ends : lineOf text (suc n) ≡ ofWaiting 0 → ((b : ℕ) → BaseOf n b → lineOf text b ≢ ofBase b idleText)
+      → (b : ℕ) → BaseOf n b → lineOf text b ≢ ofBase b runningText
+
+-- Theorem/Proof proves it
 abbrev pub ReportAgrees : Type 0
-ReportAgrees = (s : List ℕ) → meaning s .refusal ≡ 0 → Reported s
+ReportAgrees = (s : List ℕ) → ((number line : ℕ) → report s ≢ refusedLine number line) → Reports (header s .n) (givenIds s) (report s)

@@ -1,101 +1,155 @@
--- The report agrees: the lines of a schedule that is not refused tell a history from a net at its beginning, and agreement holds of it.
-use Prim.Native.Nat.{ℕ, _≤_}
-use mathlib.Core.Path.{_≡_, refl, sym, ap, ap₂, _∙_, subst}
+-- The report agrees: its lines are those of the net at the schedule's end, and what that net's states say is what the lines say,
+-- since no two states have one text.
+use Prim.Native.Nat.{ℕ, zero, suc, _+_, _/_, _%_, _≤_}
+use mathlib.Core.Path.{_≡_, refl, sym, ap, _∙_, subst}
+use mathlib.Core.Logic.{_≢_}
 use mathlib.Core.Bool.{Bool, true, false}
-use mathlib.Core.List.{List, _++_}
+use mathlib.Core.List.{List, [], _∷_, _++_, append-cancel-left}
 use native.Mathlib.Omega.{arith}
-use borrow.Author.Tests.{eqb-false}
-use lib.Dec.{eqb}
+use borrow.Author.Tests.{eqb-true, eqb-false, eq-eqb}
+use lib.Dec.{eqb, ltb}
+use lib.ListN.{length, getD, length-append}
 use Rattle.lists.specs.Choice.{choose}
-use Rattle.lists.specs.Lists.{sort}
-use Rattle.print.specs.Decimal.{decimalText}
-use Rattle.protocol.specs.declared.Base.{Base}
-use Rattle.protocol.specs.Record.{finalList}
-use Rattle.protocol.specs.Steps.{leaderOf}
-use Rattle.protocol.specs.Net.{Net, Pair, run, waiting}
-use Rattle.protocol.specs.Agreement.{BaseOf, trueIdentifiers}
-use Rattle.schedule.specs.Story.{Story, wholeStory, header}
-use Rattle.schedule.specs.Story.Begins.{Whole, header-begins, begins-setting, begins-fresh}
-use Rattle.schedule.specs.Story.Tells.{Tells, story-tells, header-unrefused, meaning-whole}
-use Rattle.schedule.specs.Report.{primeText, secondaryText, listText, leaderText, finalText, stateText}
-use Rattle.schedule.specs.Theorem.{givenIds, rosterText, agreedText, ReportAgrees}
-use Rattle.schedule.specs.Theorem.Histories.{state-most, final-by, leader-by, ends-by}
+use Rattle.lists.specs.Choice.Laws.{choose-ind, choose-yes, choose-no}
+use Rattle.print.specs.Decimal.{mostDigits, lastDigits, decimalText}
+use Rattle.protocol.specs.Net.{Net, waiting}
+use Rattle.protocol.specs.Agreement.{BaseOf}
+use Rattle.schedule.specs.Story.{header, meaning}
+use Rattle.schedule.specs.Report.{
+  baseText,
+  idleText,
+  runningText,
+  primeText,
+  secondaryText,
+  waitingText,
+  stateText,
+  baseLines,
+  waitingLine,
+  refusedLine,
+  reportOf,
+  report,
+}
+use Rattle.schedule.specs.Theorem.{
+  lineOf,
+  givenIds,
+  rosterText,
+  ofBase,
+  SaysOf,
+  idle,
+  running,
+  prime,
+  secondary,
+  ofWaiting,
+  Reports,
+  ReportAgrees,
+}
+use Rattle.schedule.specs.Theorem.States.{agreedText, StatesAgree, states-agree}
+use Rattle.schedule.specs.Theorem.Lines.{lines-counted, base-at, waiting-at}
 
--- ---- the text of a base
-choose-same : {A : Type 0} (t : Bool) {a b c d : A} → (t ≡ true → a ≡ c) → (t ≡ false → b ≡ d) → choose t a b ≡ choose t c d
-unfolding choose
-choose-same true f g = f refl
-choose-same false f g = g refl
+-- ---- a line tells what it was made of
+-- a number whose text is that of 0
+some-digit : (k v : ℕ) → 1 ≤ length (lastDigits (suc k) v)
+unfolding lastDigits
+some-digit k v =
+    choose-ind (λ (l : List ℕ). 1 ≤ length l) (ltb v 10) (λ _. omega arith)
+    (λ _. omega (arith, length-append (lastDigits k (v / 10)) ((48 + v % 10) ∷ [])))
 
-roster-is : (l ids : List ℕ) → l ≡ sort ids → leaderOf l ≡ leaderOf ids → finalText l ≡ rosterText ids
-unfolding finalText rosterText
-roster-is l ids e f = ap₂ (λ (x : List ℕ) (v : ℕ). (listText x ++ leaderText) ++ decimalText v) e f
+zero-digits : (k v : ℕ) → 2 ≤ k → lastDigits k v ≡ 48 ∷ [] → v ≡ 0
+unfolding lastDigits
+zero-digits zero v h = absurd (omega arith)
+zero-digits (suc zero) v h = absurd (omega arith)
+zero-digits (suc (suc k)) v h =
+    choose-ind (λ (l : List ℕ). l ≡ 48 ∷ [] → v ≡ 0) (ltb v 10) (λ _ e. let z : 48 + v ≡ 48 = cc in omega arith)
+    (λ _ e. absurd (omega (arith, ap length e, length-append (lastDigits (suc k) (v / 10)) ((48 + v % 10) ∷ []), some-digit k (v / 10))))
 
-text-agrees : (b : Base) (ids : List ℕ)
-    → (2 ≤ b .state → finalText (finalList b) ≡ rosterText ids) → stateText b ≡ agreedText (b .state) ids
-unfolding stateText agreedText
-text-agrees b ids roster =
-    choose-same (eqb (b .state) 0) (λ _. refl) (λ e.
-    choose-same (eqb (b .state) 1) (λ _. refl) (λ f.
-    let r = roster (omega (arith, eqb-false (b .state) 0 e, eqb-false (b .state) 1 f)) in
-    choose-same (eqb (b .state) 2) (λ _. ap (λ (l : List ℕ). primeText ++ l) r) (λ _. ap (λ (l : List ℕ). secondaryText ++ l) r)))
+waiting-zero : (count : ℕ) → ofWaiting count ≡ ofWaiting 0 → count ≡ 0
+unfolding ofWaiting decimalText lastDigits choose
+waiting-zero count e = zero-digits mostDigits count (omega arith) (append-cancel-left waitingText (decimalText count) (48 ∷ []) e)
 
--- ---- a story that goes on from a whole header
-module _ (begin : Story) (B : Whole begin) (st : Story) (T : Tells begin st) where
-  abbrev ids : List ℕ
-  ids = trueIdentifiers (begin .n) (begin .net)
+of-base : (b : ℕ) (x y : List ℕ) → ofBase b x ≡ ofBase b y → x ≡ y
+unfolding ofBase
+of-base b x y = append-cancel-left (baseText ++ decimalText b) x y
 
-  -- what holds of the history's net holds of the story's
-  of-net : (P : Net → Type 0) → P (run (begin .faulty) (begin .net) (T .events)) → P (st .net)
-  of-net P = subst P (T .net)
+-- ---- the state behind a line
+says-state : (b state : ℕ) (ids line : List ℕ) → line ≡ ofBase b (agreedText state ids) → SaysOf b ids line
+unfolding agreedText
+says-state b state ids line =
+    choose-ind (λ (x : List ℕ). line ≡ ofBase b x → SaysOf b ids line) (eqb state 0) (λ _ e. idle e)
+    (λ _. choose-ind (λ (x : List ℕ). line ≡ ofBase b x → SaysOf b ids line) (eqb state 1) (λ _ e. running e)
+    (λ _. choose-ind (λ (x : List ℕ). line ≡ ofBase b x → SaysOf b ids line) (eqb state 2) (λ _ e. prime e) (λ _ e. secondary e)))
 
-  base-of : (b : ℕ) → BaseOf (st .n) b → BaseOf (begin .n) b
-  base-of b = subst (λ (k : ℕ). BaseOf k b) (T .n)
+idle-text : (state : ℕ) (ids : List ℕ) → state ≡ 0 → agreedText state ids ≡ idleText
+unfolding agreedText
+idle-text state ids e = choose-yes _ _ (eq-eqb state 0 e)
 
-  told-text : (b : ℕ) → BaseOf (st .n) b → stateText (st .net .base b) ≡ agreedText (st .net .base b .state) ids
-  told-text b C =
-      let S = begins-setting begin B in
-      let F = begins-fresh begin B in
-      of-net (λ (W : Net). stateText (W .base b) ≡ agreedText (W .base b .state) ids)
-      (text-agrees _ ids (λ h. roster-is _ ids
-      (final-by (begin .n) (begin .t) (begin .faulty) (begin .net) S F (T .events) (T .proper) b (base-of b C) h)
-      (leader-by (begin .n) (begin .t) (begin .faulty) (begin .net) S F (T .events) (T .proper) b (base-of b C) h)))
+-- the second byte of ` running` is no other state's
+stopped-text : (state : ℕ) (ids : List ℕ) → 2 ≤ state → agreedText state ids ≢ runningText
+unfolding agreedText
+stopped-text state ids h =
+    choose-ind (λ (x : List ℕ). x ≢ runningText) (eqb state 0) (λ e. absurd (omega (arith, eqb-true state 0 e)))
+    (λ _. choose-ind (λ (x : List ℕ). x ≢ runningText) (eqb state 1) (λ e. absurd (omega (arith, eqb-true state 1 e)))
+    (λ _. choose-ind (λ (x : List ℕ). x ≢ runningText)
+    (eqb state 2) (λ _ e. absurd (omega (arith, second e))) (λ _ e. absurd (omega (arith, second e)))))
+  where
+    second : {l : List ℕ} → l ≡ runningText → getD l 1 0 ≡ 114
+    second e = ap (λ (x : List ℕ). getD x 1 0) e
 
-  told-states : (b : ℕ) → BaseOf (st .n) b → st .net .base b .state ≤ 3
-  told-states b C =
-      of-net (λ (W : Net). W .base b .state ≤ 3)
-      (state-most (begin .n) (begin .t)
-      (begin .faulty) (begin .net) (begins-setting begin B) (begins-fresh begin B) (T .events) (T .proper) b (base-of b C))
+-- ---- a schedule that is not refused
+unrefused : (s : List ℕ) → ((number line : ℕ) → report s ≢ refusedLine number line) → meaning s .refusal ≡ 0
+unfolding report reportOf
+unrefused s never = cases (eqb (meaning s .refusal) 0) refl
+  where
+    cases : (x : Bool) → eqb (meaning s .refusal) 0 ≡ x → meaning s .refusal ≡ 0
+    cases true e = eqb-true (meaning s .refusal) 0 e
+    cases false e = absurd (never (meaning s .refusal) (meaning s .line) (choose-no _ _ e))
 
-  told-ends : waiting (st .n) (st .faulty) (st .net) ≡ 0
-      → ((b : ℕ) → BaseOf (st .n) b → 1 ≤ st .net .base b .state) → (b : ℕ) → BaseOf (st .n) b → 2 ≤ st .net .base b .state
-  told-ends none all b C =
-      of-net (λ (W : Net). waiting (begin .n) (begin .faulty) W ≡ 0
-      → ((a : ℕ) → BaseOf (begin .n) a → 1 ≤ W .base a .state) → 2 ≤ W .base b .state)
-      (λ w runs. ends-by (begin .n) (begin .t) (begin .faulty)
-      (begin .net) (begins-setting begin B) (begins-fresh begin B) (T .events) (T .proper) w runs b (base-of b C))
-      (sym (ap₂ (λ (k : ℕ) (f : List Pair). waiting k f (st .net)) (T .n) (T .faulty)) ∙ none)
-      (λ a A. all a (subst (λ (k : ℕ). BaseOf k a) (sym (T .n)) A))
+module _ (s : List ℕ) (e : meaning s .refusal ≡ 0) where
+  abbrev n : ℕ
+  n = meaning s .n
 
--- ---- the whole schedule
--- what is said of a story s that is read to its end
-abbrev Says : List ℕ → Story → Type 0
-Says s st =
-    (st .n ≡ header s .n)
-    × (((b : ℕ) → BaseOf (st .n) b → stateText (st .net .base b) ≡ agreedText (st .net .base b .state) (givenIds s))
-    × (((b : ℕ) → BaseOf (st .n) b → st .net .base b .state ≤ 3)
-    × (waiting (st .n) (st .faulty) (st .net) ≡ 0
-    → ((b : ℕ) → BaseOf (st .n) b → 1 ≤ st .net .base b .state) → (b : ℕ) → BaseOf (st .n) b → 2 ≤ st .net .base b .state)))
+  abbrev W : Net
+  W = meaning s .net
 
-whole-says : (s : List ℕ) → wholeStory s .refusal ≡ 0 → Says s (wholeStory s)
-unfolding givenIds
-whole-says s e =
-    let B = header-begins s (header-unrefused s e) in
-    let T = story-tells s e in
-    (T .n, (told-text (header s) B (wholeStory s) T, (told-states (header s) B (wholeStory s) T, told-ends (header s) B (wholeStory s) T)))
+  abbrev count : ℕ
+  count = waiting n (meaning s .faulty) W
+
+  report-is : report s ≡ baseLines n W ++ waitingLine count
+  unfolding report reportOf
+  report-is = choose-yes _ _ (eq-eqb (meaning s .refusal) 0 e)
+
+  A : StatesAgree s
+  A = states-agree s e
+
+  base-line : (b : ℕ) → BaseOf n b → lineOf (baseLines n W ++ waitingLine count) b ≡ ofBase b (agreedText (W .base b .state) (givenIds s))
+  base-line b B = base-at n W count b B ∙ ap (ofBase b) (A .text b B)
+
+  says-ends : lineOf (baseLines n W ++ waitingLine count) (suc n) ≡ ofWaiting 0
+      → ((b : ℕ) → BaseOf n b → lineOf (baseLines n W ++ waitingLine count) b ≢ ofBase b idleText)
+      → (b : ℕ) → BaseOf n b → lineOf (baseLines n W ++ waitingLine count) b ≢ ofBase b runningText
+  says-ends none started b B r =
+      stopped-text (W .base b .state) (givenIds s) (A .ends waits (λ a C. runs a C) b B) (of-base b _ _ (sym (base-line b B) ∙ r))
+    where
+      waits : count ≡ 0
+      waits = waiting-zero count (sym (waiting-at n W count) ∙ none)
+
+      runs : (a : ℕ) → BaseOf n a → 1 ≤ W .base a .state
+      runs a C = cases (eqb (W .base a .state) 0) refl
+        where
+          cases : (x : Bool) → eqb (W .base a .state) 0 ≡ x → 1 ≤ W .base a .state
+          cases true q = absurd
+              (started a C (base-line a C ∙ ap (ofBase a) (idle-text (W .base a .state) (givenIds s) (eqb-true (W .base a .state) 0 q))))
+          cases false q = omega (arith, eqb-false (W .base a .state) 0 q)
+
+  says-whole : Reports n (givenIds s) (baseLines n W ++ waitingLine count)
+  says-whole = record {
+    lines = lines-counted n W count;
+    bases = λ b B. says-state b (W .base b .state) (givenIds s) _ (base-line b B);
+    waits = record { count = count; says = waiting-at n W count };
+    ends = says-ends;
+  }
 
 pub report-agrees : ReportAgrees
-report-agrees s e =
-    let m = meaning-whole s e in
-    let f = subst (Says s) (sym m) (whole-says s (ap (λ (x : Story). x .refusal) (sym m) ∙ e)) in
-    record { bases = f .0; text = f .1 .0; states = f .1 .1 .0; ends = f .1 .1 .1 }
+report-agrees s never =
+    let e = unrefused s never in
+    subst (λ (k : ℕ). Reports k (givenIds s) (report s)) (states-agree s e .bases)
+    (subst (Reports (meaning s .n) (givenIds s)) (sym (report-is s e)) (says-whole s e))

@@ -1,0 +1,122 @@
+-- What a schedule that is not refused leaves, by the states of its bases: its lines tell a history from a net at its beginning, and
+-- agreement holds of it.
+use Prim.Native.Nat.{ℕ, _≤_}
+use mathlib.Core.Path.{_≡_, refl, sym, ap, ap₂, _∙_, subst}
+use mathlib.Core.Bool.{Bool, true, false}
+use mathlib.Core.List.{List, _++_}
+use native.Mathlib.Omega.{arith}
+use borrow.Author.Tests.{eqb-false}
+use lib.Dec.{eqb}
+use Rattle.lists.specs.Choice.{choose}
+use Rattle.lists.specs.Lists.{sort}
+use Rattle.print.specs.Decimal.{decimalText}
+use Rattle.protocol.specs.declared.Base.{Base}
+use Rattle.protocol.specs.Record.{finalList}
+use Rattle.protocol.specs.Steps.{leaderOf}
+use Rattle.protocol.specs.Net.{Net, Pair, run, waiting}
+use Rattle.protocol.specs.Agreement.{BaseOf, trueIdentifiers}
+use Rattle.schedule.specs.Story.{Story, wholeStory, header, meaning}
+use Rattle.schedule.specs.Story.Begins.{Whole, header-begins, begins-setting, begins-fresh}
+use Rattle.schedule.specs.Story.Tells.{Tells, story-tells, header-unrefused, meaning-whole}
+use Rattle.schedule.specs.Report.{idleText, runningText, primeText, secondaryText, listText, leaderText, finalText, stateText}
+use Rattle.schedule.specs.Theorem.{givenIds, rosterText}
+use Rattle.schedule.specs.Theorem.Histories.{state-most, final-by, leader-by, ends-by}
+
+-- what a base prints, by its state alone
+unfoldable pub agreedText : ℕ → List ℕ → List ℕ
+agreedText state ids =
+    choose (eqb state 0) idleText
+    (choose (eqb state 1) runningText
+    (choose (eqb state 2) (primeText ++ rosterText ids)
+    (secondaryText ++ rosterText ids)))
+
+pub record StatesAgree (s : List ℕ) : Type 0 where
+  -- the bases of the report are those of the header
+  pub bases : meaning s .n ≡ header s .n
+  -- every base prints its state, and one that has stopped prints the roster that all others print
+  pub text : (b : ℕ) → BaseOf (meaning s .n) b
+      → stateText (meaning s .net .base b) ≡ agreedText (meaning s .net .base b .state) (givenIds s)
+  pub states : (b : ℕ) → BaseOf (meaning s .n) b → meaning s .net .base b .state ≤ 3
+  -- `waiting 0`, and no base idle: every base has stopped
+  pub ends : waiting (meaning s .n) (meaning s .faulty) (meaning s .net) ≡ 0
+      → ((b : ℕ) → BaseOf (meaning s .n) b → 1 ≤ meaning s .net .base b .state)
+      → (b : ℕ) → BaseOf (meaning s .n) b → 2 ≤ meaning s .net .base b .state
+
+-- ---- the text of a base
+choose-same : {A : Type 0} (t : Bool) {a b c d : A} → (t ≡ true → a ≡ c) → (t ≡ false → b ≡ d) → choose t a b ≡ choose t c d
+unfolding choose
+choose-same true f g = f refl
+choose-same false f g = g refl
+
+roster-is : (l ids : List ℕ) → l ≡ sort ids → leaderOf l ≡ leaderOf ids → finalText l ≡ rosterText ids
+unfolding finalText rosterText
+roster-is l ids e f = ap₂ (λ (x : List ℕ) (v : ℕ). (listText x ++ leaderText) ++ decimalText v) e f
+
+text-agrees : (b : Base) (ids : List ℕ)
+    → (2 ≤ b .state → finalText (finalList b) ≡ rosterText ids) → stateText b ≡ agreedText (b .state) ids
+unfolding stateText agreedText
+text-agrees b ids roster =
+    choose-same (eqb (b .state) 0) (λ _. refl) (λ e.
+    choose-same (eqb (b .state) 1) (λ _. refl) (λ f.
+    let r = roster (omega (arith, eqb-false (b .state) 0 e, eqb-false (b .state) 1 f)) in
+    choose-same (eqb (b .state) 2) (λ _. ap (λ (l : List ℕ). primeText ++ l) r) (λ _. ap (λ (l : List ℕ). secondaryText ++ l) r)))
+
+-- ---- a story that goes on from a whole header
+module _ (begin : Story) (B : Whole begin) (st : Story) (T : Tells begin st) where
+  abbrev ids : List ℕ
+  ids = trueIdentifiers (begin .n) (begin .net)
+
+  -- what holds of the history's net holds of the story's
+  of-net : (P : Net → Type 0) → P (run (begin .faulty) (begin .net) (T .events)) → P (st .net)
+  of-net P = subst P (T .net)
+
+  base-of : (b : ℕ) → BaseOf (st .n) b → BaseOf (begin .n) b
+  base-of b = subst (λ (k : ℕ). BaseOf k b) (T .n)
+
+  told-text : (b : ℕ) → BaseOf (st .n) b → stateText (st .net .base b) ≡ agreedText (st .net .base b .state) ids
+  told-text b C =
+      let S = begins-setting begin B in
+      let F = begins-fresh begin B in
+      of-net (λ (W : Net). stateText (W .base b) ≡ agreedText (W .base b .state) ids)
+      (text-agrees _ ids (λ h. roster-is _ ids
+      (final-by (begin .n) (begin .t) (begin .faulty) (begin .net) S F (T .events) (T .proper) b (base-of b C) h)
+      (leader-by (begin .n) (begin .t) (begin .faulty) (begin .net) S F (T .events) (T .proper) b (base-of b C) h)))
+
+  told-states : (b : ℕ) → BaseOf (st .n) b → st .net .base b .state ≤ 3
+  told-states b C =
+      of-net (λ (W : Net). W .base b .state ≤ 3)
+      (state-most (begin .n) (begin .t)
+      (begin .faulty) (begin .net) (begins-setting begin B) (begins-fresh begin B) (T .events) (T .proper) b (base-of b C))
+
+  told-ends : waiting (st .n) (st .faulty) (st .net) ≡ 0
+      → ((b : ℕ) → BaseOf (st .n) b → 1 ≤ st .net .base b .state) → (b : ℕ) → BaseOf (st .n) b → 2 ≤ st .net .base b .state
+  told-ends none all b C =
+      of-net (λ (W : Net). waiting (begin .n) (begin .faulty) W ≡ 0
+      → ((a : ℕ) → BaseOf (begin .n) a → 1 ≤ W .base a .state) → 2 ≤ W .base b .state)
+      (λ w runs. ends-by (begin .n) (begin .t) (begin .faulty)
+      (begin .net) (begins-setting begin B) (begins-fresh begin B) (T .events) (T .proper) w runs b (base-of b C))
+      (sym (ap₂ (λ (k : ℕ) (f : List Pair). waiting k f (st .net)) (T .n) (T .faulty)) ∙ none)
+      (λ a A. all a (subst (λ (k : ℕ). BaseOf k a) (sym (T .n)) A))
+
+-- ---- the whole schedule
+-- what is said of a story s that is read to its end
+abbrev Says : List ℕ → Story → Type 0
+Says s st =
+    (st .n ≡ header s .n)
+    × (((b : ℕ) → BaseOf (st .n) b → stateText (st .net .base b) ≡ agreedText (st .net .base b .state) (givenIds s))
+    × (((b : ℕ) → BaseOf (st .n) b → st .net .base b .state ≤ 3)
+    × (waiting (st .n) (st .faulty) (st .net) ≡ 0
+    → ((b : ℕ) → BaseOf (st .n) b → 1 ≤ st .net .base b .state) → (b : ℕ) → BaseOf (st .n) b → 2 ≤ st .net .base b .state)))
+
+whole-says : (s : List ℕ) → wholeStory s .refusal ≡ 0 → Says s (wholeStory s)
+unfolding givenIds
+whole-says s e =
+    let B = header-begins s (header-unrefused s e) in
+    let T = story-tells s e in
+    (T .n, (told-text (header s) B (wholeStory s) T, (told-states (header s) B (wholeStory s) T, told-ends (header s) B (wholeStory s) T)))
+
+pub states-agree : (s : List ℕ) → meaning s .refusal ≡ 0 → StatesAgree s
+states-agree s e =
+    let m = meaning-whole s e in
+    let f = subst (Says s) (sym m) (whole-says s (ap (λ (x : Story). x .refusal) (sym m) ∙ e)) in
+    record { bases = f .0; text = f .1 .0; states = f .1 .1 .0; ends = f .1 .1 .1 }
