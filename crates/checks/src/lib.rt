@@ -2,10 +2,10 @@
 use certified::certified_count;
 use limits::MOST_BASES;
 use protocol::Base;
-use tally::suspects::suspect_count;
-use tally::vectors::correct_count;
-use tally::vectors::list_tally;
-use tally::verifies::tally_sum;
+use suspects::suspect_count;
+use tally::tally_sum;
+use vectors::correct_count;
+use vectors::list_tally;
 ghost use mathlib.Core.Path.{_≡_};
 ghost use lib.ListN.{take};
 ghost use Rattle.protocol.specs.Steps.{primeHolds, secondaryHolds, votes};

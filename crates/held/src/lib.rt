@@ -5,7 +5,7 @@ use lists::same;
 use protocol::Link;
 ghost use mathlib.Core.Path.{_≡_};
 ghost use lib.ListN.{take};
-ghost use Rattle.protocol.specs.Links.{announces, holdsVerify, used, full, holdsVector, holdsList};
+ghost use Rattle.protocol.specs.Links.{announces, holdsVerify, used, full, holdsVector};
 
 pub fn has_announce(link: Link) -> bool
     ensures { λ r. ⌜ r ≡ announces link ⌝ }
@@ -46,16 +46,4 @@ pub fn holds_vector(n: u8, kind: u16, link: Link, v: [u32; MOST_BASES]) -> bool
         return false;
     }
     same(&link.list, &v, n as usize)
-}
-
-// Whether a vector message of either kind with the first n identifiers of v is held.
-pub fn holds_list(n: u8, link: Link, v: [u32; MOST_BASES]) -> bool
-    ensures { λ r. ⌜ r ≡ holdsList n link (take n v) ⌝ }
-{
-    let kind = link.held;
-    match kind {
-        3 => same(&link.list, &v, n as usize),
-        4 => same(&link.list, &v, n as usize),
-        _ => false,
-    }
 }

@@ -3,10 +3,10 @@ use crate::say;
 use certified::certified_count;
 use limits::MOST_BASES;
 use protocol::Base;
-use tally::suspects::suspect_count;
-use tally::vectors::correct_count;
-use tally::vectors::list_tally;
-use tally::verifies::tally_sum;
+use suspects::suspect_count;
+use tally::tally_sum;
+use vectors::correct_count;
+use vectors::list_tally;
 
 // n² - 2t
 fn sum_asked(n: u8, t: u8) -> usize {

@@ -12,7 +12,7 @@ use Rattle.lists.specs.Lists.{member, sumOver}
 use Rattle.lists.specs.Lists.Places.{member-at}
 use Rattle.counting.specs.Counts.{bit-yes}
 use Rattle.counting.specs.Sums.{bit, sum}
-use Rattle.counting.specs.Sums.Laws.{sum-add, sum-zeros}
+use Rattle.counting.specs.Sums.Laws.{sum-over-swap}
 use Rattle.protocol.specs.declared.Base.{Base}
 use Rattle.protocol.specs.Links.{holdsVerify}
 use Rattle.protocol.specs.Record.{linkAt, linkCount, links, certified, tally, tallySum}
@@ -35,13 +35,6 @@ sum-back ids count j total term f h most room e t =
     let back : j - 1 + 1 ≡ j = omega arith in
     let here : getD l (j - 1) 0 ≡ getD ids (j - 1) 0 = getD-take count ids (j - 1) 0 (omega arith) in
     omega (arith, e, t, ap f here, sum-from l f (j - 1) (omega (arith, length-take count ids)), ap (λ (k : ℕ). sumOver (drop k l) f) back)
-
--- a sum over a list of sums over 0 .. k - 1, the other way round
-pub sum-over-swap : (l : List ℕ) (k : ℕ) (f : ℕ → ℕ → ℕ) → sumOver l (λ g. sum k (λ i. f g i)) ≡ sum k (λ i. sumOver l (λ g. f g i))
-unfolding sumOver
-sum-over-swap [] k f = sym (sum-zeros k)
-sum-over-swap (x ∷ l) k f = ap (λ (s : ℕ). sum k (λ i. f x i) + s) (sum-over-swap l k f)
-    ∙ sym (sum-add k (λ i. f x i) (λ i. sumOver l (λ g. f g i)))
 
 -- one for each member of a list that all of them are members of
 sum-with-members : (all l : List ℕ) (f : ℕ → ℕ)

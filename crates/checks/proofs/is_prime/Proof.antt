@@ -1,5 +1,5 @@
 -- `checks::is_prime` meets its contract: the three conditions stand in the order of the definition. As many as n are certified, so
--- n is at most 16 where it is squared.
+-- n is at most `mostBases` where it is squared.
 use Prim.Native.Nat.{ℕ, _+_, _*_, _≤_}
 use mathlib.Core.Path.{sym, ap, _∙_}
 use native.Mathlib.Omega.{arith}
@@ -8,6 +8,7 @@ use borrow.Author.Tests.{eq-eqb, ne-eqb, le-leb, lt-leb}
 use borrow.Author.Needs.{needs}
 use lib.ListN.{length}
 use lib.Dec.{leb}
+use Rattle.limits.specs.Limits.{mostBases}
 use Rattle.protocol.specs.Steps.{primeHolds}
 use Rattle.protocol.specs.Record.{certified, tallySum}
 use Rattle.lists.specs.Choice.Laws.{and-fails, and-goes-on}
@@ -39,7 +40,7 @@ add-if2 c = search needs
 
 mul-if2-2 : tie.Need-mul-if2-2
 mul-if2-2 c = let b = c .before .before .before .before .before .args .base in
-    let small : b .n ≤ 16 = omega (arith, c .before .before .certified-count .ensures .1, c .before .if1 .left) in
+    let small : b .n ≤ mostBases = omega (arith, c .before .before .certified-count .ensures .1, c .before .if1 .left) in
     omega (arith, mul-le-mul-right (b .n) small)
 
 returns-2 : tie.Need-returns-2

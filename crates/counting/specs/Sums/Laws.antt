@@ -3,11 +3,13 @@ use Prim.Native.Nat.{ℕ, zero, suc, _+_, _*_, _≤_, _<_}
 use mathlib.Core.Path.{_≡_, refl, sym, ap, ap₂, _∙_}
 use mathlib.Core.Logic.{_≢_}
 use mathlib.Core.Bool.{Bool, true}
+use mathlib.Core.List.{List, [], _∷_}
 use native.Mathlib.Nat.{le-refl, zero-mul, suc-mul}
 use native.Mathlib.Decide.{ℕ-discrete}
 use native.Mathlib.Numerals.{add-one}
 use native.Mathlib.Omega.{arith}
 use Rattle.lists.specs.Choice.Laws.{and-true}
+use Rattle.lists.specs.Lists.{sumOver}
 use Rattle.counting.specs.Sums.{sum, all}
 use Rattle.counting.specs.Sums.Bounds.{sum-none}
 
@@ -43,6 +45,14 @@ pub sum-swap : (k m : ℕ) (f : ℕ → ℕ → ℕ) → sum k (λ x. sum m (λ 
 unfolding sum
 sum-swap zero m f = sym (sum-zeros m)
 sum-swap (suc k) m f = ap (λ s. sum m (λ y. f k y) + s) (sum-swap k m f) ∙ sym (sum-add m (λ y. f k y) (λ y. sum k (λ x. f x y)))
+
+-- over a list, of sums over 0 .. k - 1
+pub sum-over-swap : (l : List ℕ) (k : ℕ) (f : ℕ → ℕ → ℕ)
+    → sumOver l (λ g. sum k (λ i. f g i)) ≡ sum k (λ i. sumOver l (λ g. f g i))
+unfolding sumOver
+sum-over-swap [] k f = sym (sum-zeros k)
+sum-over-swap (x ∷ l) k f =
+    ap (λ (s : ℕ). sum k (λ i. f x i) + s) (sum-over-swap l k f) ∙ sym (sum-add k (λ i. f x i) (λ i. sumOver l (λ g. f g i)))
 
 -- one term is at most the sum, and so are two
 pub sum-term : (k : ℕ) (f : ℕ → ℕ) (a : ℕ) → a < k → f a ≤ sum k f

@@ -11,6 +11,10 @@ use Rattle.counting.specs.Sums.Laws.{sum-next}
 pub sum-turn : (f : ℕ → ℕ) (i total term : ℕ) → total ≡ sum i f → term ≡ f i → total + term ≡ sum (i + 1) f
 sum-turn f i total term p q = omega (arith, sum-next i f)
 
+-- a loop within another goes on from what the outer one has
+pub sum-grows : (f : ℕ → ℕ) (j start total term : ℕ) → total ≡ start + sum j f → term ≡ f j → total + term ≡ start + sum (j + 1) f
+sum-grows f j start total term e t = omega (arith, sum-next j f)
+
 -- the number of those of which a test holds
 pub count-turn : (p : ℕ → Bool) (i total term : ℕ) → total ≡ sum i (λ j. bit (p j)) → term ≡ bit (p i)
     → total + term ≡ sum (i + 1) (λ j. bit (p j))

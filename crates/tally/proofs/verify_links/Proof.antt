@@ -1,0 +1,70 @@
+-- `tally::verify_links` meets its contract: the links that hold Verify g are counted one after another.
+use Prim.Native.Nat.{_-_}
+use mathlib.Core.Path.{refl, ap, _∙_}
+use native.Mathlib.Omega.{arith}
+use borrow.Author.Needs.{needs}
+use Rattle.certified.specs.Counted.{Counted, counted-none, counted-next, counted-all}
+use Rattle.counting.specs.Sums.{bit}
+use Rattle.protocol.specs.Record.{linkAt}
+use Rattle.protocol.specs.Links.{holdsVerify}
+use Rattle.tally.proofs.verify_links.Statement.{statement}
+use Rattle.tally.proofs.verify_links.Tie as tie
+
+abbrev Inv-loop : tie.InvT-loop
+Inv-loop g base k count₀ i₀ count i = Counted base (λ l. holdsVerify l g) k i count
+
+abbrev μ-loop : tie.MeasureT-loop
+μ-loop g base k count₀ i₀ count i = k - i
+
+link-count-requires : tie.Need-link-count-requires Inv-loop μ-loop
+link-count-requires c κs = search needs
+
+loop-holds : tie.Need-loop-holds Inv-loop μ-loop
+loop-holds c = counted-none _ _ _
+
+mul-link : tie.Need-mul-link Inv-loop μ-loop
+mul-link c = omega arith
+
+element-copy-out-link : tie.Need-element-copy-out-link Inv-loop μ-loop
+element-copy-out-link c = omega arith
+
+holds-verify-requires : tie.Need-holds-verify-requires Inv-loop μ-loop
+holds-verify-requires c κs = search needs
+
+one-requires : tie.Need-one-requires Inv-loop μ-loop
+one-requires c κs = search needs
+
+add-count : tie.Need-add-count Inv-loop μ-loop
+add-count c = omega arith
+
+add-i : tie.Need-add-i Inv-loop μ-loop
+add-i c = omega arith
+
+loop-less : tie.Need-loop-less Inv-loop μ-loop
+loop-less c = omega arith
+
+loop-again : tie.Need-loop-again Inv-loop μ-loop
+unfolding linkAt
+loop-again c = let s = c .before .before .before in
+    counted-next _ _ (s .before .loop .inv) (s .loop-test .taken) refl (c .one .ensures .0 ∙ ap bit (c .before .holds-verify .ensures))
+
+returns : tie.Need-returns Inv-loop μ-loop
+returns c = counted-all _ _ (c .before .loop .inv) (omega arith) (c .before .before .link-count .ensures)
+
+pub verify-links-spec : {M : Type 1} → statement M
+verify-links-spec =
+    tie.close
+    (tie.spec
+    Inv-loop
+    μ-loop
+    link-count-requires
+    loop-holds
+    mul-link
+    element-copy-out-link
+    holds-verify-requires
+    one-requires
+    add-count
+    add-i
+    loop-less
+    loop-again
+    returns)

@@ -1,0 +1,43 @@
+// The tally of a list, and the links that hold it as Correct-Final.
+use certified::link_count;
+use counting::one;
+use held::holds_vector;
+use limits::MOST_BASES;
+use protocol::Base;
+ghost use Prim.Native.Nat.{_≤_};
+ghost use mathlib.Core.Path.{_≡_};
+ghost use lib.ListN.{take};
+ghost use Rattle.limits.specs.Limits.{mostLinks};
+ghost use Rattle.protocol.specs.Record.{listTally, correctCount};
+
+// The number of links that hold a vector message with the first n identifiers of v: a link holds one, of kind 3 or 4.
+pub fn list_tally(base: Base, v: [u32; MOST_BASES]) -> usize
+    ensures { λ r. ⌜ (r ≡ listTally base (take (base .n) v)) × (r ≤ mostLinks) ⌝ }
+{
+    let k = link_count(base.n);
+    let mut count: usize = 0;
+    let mut i: usize = 0;
+    while i < k {
+        let link = base.links[i];
+        let correct = one(holds_vector(base.n, 3, link, v));
+        let verify = one(holds_vector(base.n, 4, link, v));
+        count += correct + verify;
+        i += 1;
+    }
+    count
+}
+
+// The number of links that hold Correct-Final of them.
+pub fn correct_count(base: Base, v: [u32; MOST_BASES]) -> usize
+    ensures { λ r. ⌜ (r ≡ correctCount base (take (base .n) v)) × (r ≤ mostLinks) ⌝ }
+{
+    let k = link_count(base.n);
+    let mut count: usize = 0;
+    let mut i: usize = 0;
+    while i < k {
+        let link = base.links[i];
+        count += one(holds_vector(base.n, 3, link, v));
+        i += 1;
+    }
+    count
+}
