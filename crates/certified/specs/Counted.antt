@@ -36,7 +36,8 @@ module _ (b : Base) (p : Link → Bool) where
     is = n ∙ count-turn (λ j. p (linkAt b j)) i count term (C .is) e;
   }
 
-  pub counted-all : {k i count : ℕ} → Counted b p k i count → k ≤ i → k ≡ min (b .n - 1) mostLinks → (count ≡ links b p) × (count ≤ mostLinks)
+  pub counted-all : {k i count : ℕ}
+      → Counted b p k i count → k ≤ i → k ≡ min (b .n - 1) mostLinks → (count ≡ links b p) × (count ≤ mostLinks)
   unfolding links linkCount
   counted-all {k} {i} {count} C h e =
       let all : i ≡ min (b .n - 1) mostLinks = omega (arith, C .place) in

@@ -37,21 +37,15 @@ loop-less : tie.Need-loop-less Inv-loop μ-loop
 loop-less c = omega (arith, c .before .before .before .loop-test .taken)
 
 loop-again : tie.Need-loop-again Inv-loop μ-loop
-loop-again c = (
-  leader-new _ _ _ (c .before .before .before .loop-test .taken)
-      (c .before .before .before .before .loop .inv .1) (c .before .before .before .before .loop .inv .0) (c .before .if1 .taken),
-  omega (arith, c .before .before .before .before .loop .inv .1),
-)
+loop-again c = let s = c .before .before .before in let l = s .before .loop in
+    (leader-new _ _ _ (s .loop-test .taken) (l .inv .1) (l .inv .0) (c .before .if1 .taken), omega (arith, l .inv .1))
 
 loop-less-2 : tie.Need-loop-less-2 Inv-loop μ-loop
 loop-less-2 c = omega (arith, c .before .before .loop-test .taken)
 
 loop-again-2 : tie.Need-loop-again-2 Inv-loop μ-loop
-loop-again-2 c = (
-  leader-same _ _ _ (c .before .before .loop-test .taken) (c .before .before .before .loop .inv .1)
-      (c .before .before .before .loop .inv .0) (c .if1 .left),
-  omega (arith, c .before .before .before .loop .inv .1),
-)
+loop-again-2 c = let s = c .before .before in let l = s .before .loop in
+    (leader-same _ _ _ (s .loop-test .taken) (l .inv .1) (l .inv .0) (c .if1 .left), omega (arith, l .inv .1))
 
 returns : tie.Need-returns Inv-loop μ-loop
 returns c = let z : c .before .loop .i ≡ 0 = omega (arith, c .loop-test .left) in

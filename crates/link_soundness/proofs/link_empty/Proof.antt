@@ -20,27 +20,26 @@ zero-behind-requires c κs = search needs
 
 returns-3 : tie.Need-returns-3
 unfolding linkEmpty
-returns-3 c = and-goes-on (eq-eqb _ _ (c .before .before .before .before .before .before .if1 .left))
-    (and-goes-on (eq-eqb _ _ (c .before .before .before .before .before .if2 .left))
+returns-3 c = let two = c .before .before .before .before .before in
+    and-goes-on (eq-eqb _ _ (two .before .if1 .left)) (and-goes-on (eq-eqb _ _ (two .if2 .left))
     (and-fails _ (sym (c .before .zero-behind .ensures) ∙ not-true _ (c .if3 .taken))))
 
 returns-4 : tie.Need-returns-4
 unfolding linkEmpty
-returns-4 c = and-goes-on (eq-eqb _ _ (c .before .before .before .before .before .before .before .if1 .left))
-    (and-goes-on (eq-eqb _ _ (c .before .before .before .before .before .before .if2 .left)) (and-goes-on
-    (sym (c .before .before .zero-behind .ensures) ∙ not-false _ (c .before .if3 .left)) (and-fails _ (ne-eqb _ _ (c .if4 .taken)))))
+returns-4 c = let three = c .before in let two = three .before .before .before .before .before in
+    and-goes-on (eq-eqb _ _ (two .before .if1 .left)) (and-goes-on (eq-eqb _ _ (two .if2 .left))
+    (and-goes-on (sym (three .before .zero-behind .ensures) ∙ not-false _ (three .if3 .left)) (and-fails _ (ne-eqb _ _ (c .if4 .taken)))))
 
 zero-behind-requires-2 : tie.Need-zero-behind-requires-2
 zero-behind-requires-2 c κs = search needs
 
 returns-5 : tie.Need-returns-5
 unfolding linkEmpty
-returns-5 c =
-    and-goes-on (eq-eqb _ _ (c .before .before .before .before .before .before .before .before .before .before .before .if1 .left))
-    (and-goes-on (eq-eqb _ _ (c .before .before .before .before .before .before .before .before .before .before .if2 .left))
-    (and-goes-on (sym (c .before .before .before .before .before .before .zero-behind .ensures)
-    ∙ not-false _ (c .before .before .before .before .before .if3 .left))
-    (and-goes-on (eq-eqb _ _ (c .before .before .before .before .if4 .left)) (c .zero-behind2 .ensures))))
+returns-5 c = let four = c .before .before .before .before in let three = four .before in
+    let two = three .before .before .before .before .before in
+    and-goes-on (eq-eqb _ _ (two .before .if1 .left)) (and-goes-on (eq-eqb _ _ (two .if2 .left))
+    (and-goes-on (sym (three .before .zero-behind .ensures) ∙ not-false _ (three .if3 .left))
+    (and-goes-on (eq-eqb _ _ (four .if4 .left)) (c .zero-behind2 .ensures))))
 
 pub link-empty-spec : {M : Type 1} → statement M
 link-empty-spec =

@@ -26,8 +26,8 @@ verifies-sound-requires c κs = search needs
 
 returns-2 : tie.Need-returns-2
 unfolding linkSound
-returns-2 c = let a = c .before .before .before .before .args in
-    and-goes-on (le-leb (used (a .link)) (a .n + 1) (omega (arith, c .before .before .before .held-count .ensures)))
+returns-2 c = let one = c .before .before in let a = one .before .before .args in
+    and-goes-on (le-leb (used (a .link)) (a .n + 1) (omega (arith, one .before .held-count .ensures)))
     (and-fails _ (sym (c .before .verifies-sound .ensures) ∙ not-true _ (c .if2 .taken)))
 
 held-sound-requires : tie.Need-held-sound-requires
@@ -35,9 +35,9 @@ held-sound-requires c κs = search needs
 
 returns-3 : tie.Need-returns-3
 unfolding linkSound
-returns-3 c = let a = c .before .before .before .before .before .args in
-    and-goes-on (le-leb (used (a .link)) (a .n + 1) (omega (arith, c .before .before .before .before .held-count .ensures)))
-    (and-goes-on (sym (c .before .before .verifies-sound .ensures) ∙ not-false _ (c .before .if2 .left)) (c .held-sound .ensures))
+returns-3 c = let two = c .before in let one = two .before .before in let a = one .before .before .args in
+    and-goes-on (le-leb (used (a .link)) (a .n + 1) (omega (arith, one .before .held-count .ensures)))
+    (and-goes-on (sym (two .before .verifies-sound .ensures) ∙ not-false _ (two .if2 .left)) (c .held-sound .ensures))
 
 pub link-sound-spec : {M : Type 1} → statement M
 link-sound-spec =

@@ -25,8 +25,9 @@ ascends-requires c κs = search needs
 
 returns-2 : tie.Need-returns-2
 unfolding listSound
-returns-2 c = and-goes-on (sym (c .before .before .before .before .none-zero .ensures)
-    ∙ not-false _ (c .before .before .before .if1 .left)) (and-fails _ (sym (c .before .ascends .ensures) ∙ not-true _ (c .if2 .taken)))
+returns-2 c = let one = c .before .before .before in
+    and-goes-on (sym (one .before .none-zero .ensures) ∙ not-false _ (one .if1 .left))
+    (and-fails _ (sym (c .before .ascends .ensures) ∙ not-true _ (c .if2 .taken)))
 
 slice-aggregate-zero-behind : tie.Need-slice-aggregate-zero-behind
 slice-aggregate-zero-behind c = search needs
@@ -36,9 +37,9 @@ zero-behind-requires c κs = search needs
 
 returns-3 : tie.Need-returns-3
 unfolding listSound
-returns-3 c = and-goes-on (sym (c .before .before .before .before .before .before .none-zero .ensures)
-    ∙ not-false _ (c .before .before .before .before .before .if1 .left))
-    (and-goes-on (sym (c .before .before .before .ascends .ensures) ∙ not-false _ (c .before .before .if2 .left)) (c .zero-behind .ensures))
+returns-3 c = let two = c .before .before in let one = two .before .before .before in
+    and-goes-on (sym (one .before .none-zero .ensures) ∙ not-false _ (one .if1 .left))
+    (and-goes-on (sym (two .before .ascends .ensures) ∙ not-false _ (two .if2 .left)) (c .zero-behind .ensures))
 
 pub list-sound-spec : {M : Type 1} → statement M
 list-sound-spec =

@@ -23,18 +23,18 @@ differ-requires c κs = search needs
 
 returns-2 : tie.Need-returns-2
 unfolding verifiesSound verifiesOf
-returns-2 c = and-goes-on (sym (c .before .before .before .before .before .before .none-zero .ensures) ∙ not-false _
-    (c .before .before .before .before .before .if1 .left)) (and-fails _ (sym (c .before .differ .ensures) ∙ not-true _ (c .if2 .taken)))
+returns-2 c = let one = c .before .before .before .before .before in
+    and-goes-on (sym (one .before .none-zero .ensures) ∙ not-false _ (one .if1 .left))
+    (and-fails _ (sym (c .before .differ .ensures) ∙ not-true _ (c .if2 .taken)))
 
 zero-behind-requires : tie.Need-zero-behind-requires
 zero-behind-requires c κs = search needs
 
 returns-3 : tie.Need-returns-3
 unfolding verifiesSound verifiesOf
-returns-3 c = and-goes-on (sym (c .before .before .before .before .before .before .before .before .before .before .none-zero .ensures)
-    ∙ not-false _ (c .before .before .before .before .before .before .before .before .before .if1 .left))
-    (and-goes-on (sym (c .before .before .before .before .before .differ .ensures)
-    ∙ not-false _ (c .before .before .before .before .if2 .left)) (c .zero-behind .ensures))
+returns-3 c = let two = c .before .before .before .before in let one = two .before .before .before .before .before in
+    and-goes-on (sym (one .before .none-zero .ensures) ∙ not-false _ (one .if1 .left))
+    (and-goes-on (sym (two .before .differ .ensures) ∙ not-false _ (two .if2 .left)) (c .zero-behind .ensures))
 
 pub verifies-sound-spec : {M : Type 1} → statement M
 verifies-sound-spec =

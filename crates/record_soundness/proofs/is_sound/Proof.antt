@@ -20,17 +20,18 @@ links-sound-requires c κs = search needs
 
 returns-3 : tie.Need-returns-3
 unfolding sound
-returns-3 c = and-goes-on (le-leb _ _ (c .before .before .before .before .if1 .left)) (and-goes-on
-    (le-leb _ _ (c .before .before .if2 .left)) (and-fails _ (sym (c .before .links-sound .ensures) ∙ not-true _ (c .if3 .taken))))
+returns-3 c = let two = c .before .before in
+    and-goes-on (le-leb _ _ (two .before .before .if1 .left)) (and-goes-on (le-leb _ _ (two .if2 .left))
+    (and-fails _ (sym (c .before .links-sound .ensures) ∙ not-true _ (c .if3 .taken))))
 
 announces-sound-requires : tie.Need-announces-sound-requires
 announces-sound-requires c κs = search needs
 
 returns-4 : tie.Need-returns-4
 unfolding sound
-returns-4 c = and-goes-on (le-leb _ _ (c .before .before .before .before .before .before .if1 .left))
-    (and-goes-on (le-leb _ _ (c .before .before .before .before .if2 .left))
-    (and-goes-on (sym (c .before .before .before .links-sound .ensures) ∙ not-false _ (c .before .before .if3 .left))
+returns-4 c = let three = c .before .before in let two = three .before .before in
+    and-goes-on (le-leb _ _ (two .before .before .if1 .left)) (and-goes-on (le-leb _ _ (two .if2 .left))
+    (and-goes-on (sym (three .before .links-sound .ensures) ∙ not-false _ (three .if3 .left))
     (and-fails _ (sym (c .before .announces-sound .ensures) ∙ not-true _ (c .if4 .taken)))))
 
 final-sound-requires : tie.Need-final-sound-requires
@@ -38,10 +39,10 @@ final-sound-requires c κs = search needs
 
 returns-5 : tie.Need-returns-5
 unfolding sound
-returns-5 c = and-goes-on (le-leb _ _ (c .before .before .before .before .before .before .before .before .if1 .left))
-    (and-goes-on (le-leb _ _ (c .before .before .before .before .before .before .if2 .left)) (and-goes-on
-    (sym (c .before .before .before .before .before .links-sound .ensures) ∙ not-false _ (c .before .before .before .before .if3 .left))
-    (and-goes-on (sym (c .before .before .before .announces-sound .ensures) ∙ not-false _ (c .before .before .if4 .left))
+returns-5 c = let four = c .before .before in let three = four .before .before in let two = three .before .before in
+    and-goes-on (le-leb _ _ (two .before .before .if1 .left)) (and-goes-on (le-leb _ _ (two .if2 .left))
+    (and-goes-on (sym (three .before .links-sound .ensures) ∙ not-false _ (three .if3 .left))
+    (and-goes-on (sym (four .before .announces-sound .ensures) ∙ not-false _ (four .if4 .left))
     (and-fails _ (sym (c .before .final-sound .ensures) ∙ not-true _ (c .if5 .taken))))))
 
 idle-sound-requires : tie.Need-idle-sound-requires
@@ -49,12 +50,12 @@ idle-sound-requires c κs = search needs
 
 returns-6 : tie.Need-returns-6
 unfolding sound
-returns-6 c = and-goes-on (le-leb _ _ (c .before .before .before .before .before .before .before .before .before .if1 .left))
-    (and-goes-on (le-leb _ _ (c .before .before .before .before .before .before .before .if2 .left))
-    (and-goes-on (sym (c .before .before .before .before .before .before .links-sound .ensures)
-    ∙ not-false _ (c .before .before .before .before .before .if3 .left)) (and-goes-on
-    (sym (c .before .before .before .before .announces-sound .ensures) ∙ not-false _ (c .before .before .before .if4 .left))
-    (and-goes-on (sym (c .before .before .final-sound .ensures) ∙ not-false _ (c .before .if5 .left)) (c .idle-sound .ensures)))))
+returns-6 c = let five = c .before in
+    let four = five .before .before in let three = four .before .before in let two = three .before .before in
+    and-goes-on (le-leb _ _ (two .before .before .if1 .left)) (and-goes-on (le-leb _ _ (two .if2 .left))
+    (and-goes-on (sym (three .before .links-sound .ensures) ∙ not-false _ (three .if3 .left))
+    (and-goes-on (sym (four .before .announces-sound .ensures) ∙ not-false _ (four .if4 .left))
+    (and-goes-on (sym (five .before .final-sound .ensures) ∙ not-false _ (five .if5 .left)) (c .idle-sound .ensures)))))
 
 pub is-sound-spec : {M : Type 1} → statement M
 is-sound-spec =

@@ -66,12 +66,8 @@ one-requires-2 : tie.Need-one-requires-2 Inv-loop2 μ-loop2 Inv-loop μ-loop
 one-requires-2 c κs = search needs
 
 add-count-2 : tie.Need-add-count-2 Inv-loop2 μ-loop2 Inv-loop μ-loop
-add-count-2 c = omega (
-  arith,
-  c .one2 .ensures,
-  c .before .before .before .before .before .one .ensures,
-  c .before .before .before .before .before .before .before .before .before .loop .inv,
-)
+add-count-2 c = let l = c .before .before .before .before in
+    omega (arith, c .one2 .ensures, l .before .one .ensures, l .before .before .before .before .before .loop .inv)
 
 add-j : tie.Need-add-j Inv-loop2 μ-loop2 Inv-loop μ-loop
 add-j c = omega arith
@@ -81,14 +77,13 @@ loop2-less c = omega arith
 
 loop2-again : tie.Need-loop2-again Inv-loop2 μ-loop2 Inv-loop μ-loop
 unfolding linkAt
-loop2-again c = let b = c .before .before .before .before .before .before .before .before .before .before .before .args .t1 in
-    let i = c .before .before .before .before .before .before .before .before .before .loop .i in
-    let l = c .before .before .before .before .loop2 in let o = c .one2 .ensures in (
+loop2-again c = let l = c .before .before .before .before in let s = l .before .before .before .before .before in
+    let b = s .before .before .args .t1 in let m = l .loop2 in let o = c .one2 .ensures in (
       omega arith,
       (
         omega (arith, o),
-        sum-grows (λ m. bit (suspectPair (linkAt b i) (linkAt b m)))
-            (l .j) _ (l .count) (c .one2 .result) (l .inv .1 .1) (o .0 ∙ ap bit (c .before .suspect-pair .ensures)),
+        sum-grows (λ k. bit (suspectPair (linkAt b (s .loop .i)) (linkAt b k)))
+            (m .j) _ (m .count) (c .one2 .result) (m .inv .1 .1) (o .0 ∙ ap bit (c .before .suspect-pair .ensures)),
       ),
     )
 
@@ -100,13 +95,12 @@ loop-less c = omega arith
 
 loop-again : tie.Need-loop-again Inv-loop2 μ-loop2 Inv-loop μ-loop
 unfolding linkAt
-loop-again c = let b = c .before .before .before .before .before .before .before .before .args .t1 in
-    let l = c .before .before .before .before .before .before .loop in
-    let m = c .before .loop2 in let o = c .before .before .one .ensures in
-    let own = o .0 ∙ ap bit (c .before .before .before .suspect-own .ensures) in (
+loop-again c = let p = c .before .before in let s = p .before .before .before .before in
+    let b = s .before .before .args .t1 in let l = s .loop in let m = c .before .loop2 in let o = p .one .ensures in
+    let own = o .0 ∙ ap bit (p .before .suspect-own .ensures) in (
       omega arith,
       (
-        omega (arith, o, c .before .before .before .before .before .before .before .link-count .ensures),
+        omega (arith, o, s .before .link-count .ensures),
         pairs-grow (λ i j. bit (suspectPair (linkAt b i) (linkAt b j))) (λ i. bit (suspectOwn (b .own) (linkAt b i)))
             (l .i) (m .j) (l .count) _ (m .count) (l .inv .1 .1) own (m .inv .1 .1) (omega arith),
       ),

@@ -25,9 +25,8 @@ holds-requires c κs = search needs
 
 returns-3 : tie.Need-returns-3
 unfolding holdsVerify verifiesOf
-returns-3 c = let a = c .before .before .before .before .before .before .before .args in
-    pair-lacks (a .t1) (a .t2) (c .before .before .before .before .before .before .if1 .left)
-    (c .before .before .before .before .before .if2 .left) (sym (c .before .holds .ensures) ∙ not-true _ (c .if3 .taken))
+returns-3 c = let two = c .before .before .before .before .before in let one = two .before in let a = one .before .args in
+    pair-lacks (a .t1) (a .t2) (one .if1 .left) (two .if2 .left) (sym (c .before .holds .ensures) ∙ not-true _ (c .if3 .taken))
 
 cast-holds-2 : tie.Need-cast-holds-2
 cast-holds-2 c = search needs
@@ -37,11 +36,10 @@ holds-requires-2 c κs = search needs
 
 returns-4 : tie.Need-returns-4
 unfolding holdsVerify verifiesOf
-returns-4 c = let a = c .before .before .before .before .before .before .before .before .before .before .before .args in
-    pair-back (a .t1) (a .t2) (c .before .before .before .before .before .before .before .before .before .before .if1 .left)
-    (c .before .before .before .before .before .before .before .before .before .if2 .left)
-    (sym (c .before .before .before .before .before .holds .ensures)
-    ∙ not-false _ (c .before .before .before .before .if3 .left)) (c .holds2 .ensures)
+returns-4 c = let three = c .before .before .before .before in let two = three .before .before .before .before .before in
+    let one = two .before in let a = one .before .args in
+    pair-back (a .t1) (a .t2) (one .if1 .left) (two .if2 .left)
+    (sym (three .before .holds .ensures) ∙ not-false _ (three .if3 .left)) (c .holds2 .ensures)
 
 pub suspect-pair-spec : {M : Type 1} → statement M
 suspect-pair-spec =
