@@ -32,7 +32,7 @@ link-count-requires c κs = search needs
 
 loop-holds : tie.Need-loop-holds Inv-loop μ-loop
 unfolding Sums.sum
-loop-holds c = let m = listed-most (c .before .before .before .args .t1) _ (c .before .before .certified-ids .ensures) in
+loop-holds c = let s = c .before .before in let m = listed-most (s .before .args .t1) _ (s .certified-ids .ensures) in
     (omega arith, (omega (arith, m), omega arith))
 
 mul-link : tie.Need-mul-link Inv-loop μ-loop
@@ -42,8 +42,8 @@ element-copy-out-link : tie.Need-element-copy-out-link Inv-loop μ-loop
 element-copy-out-link c = omega arith
 
 verified-of-requires : tie.Need-verified-of-requires Inv-loop μ-loop
-verified-of-requires c κs = listed-most (c .before .before .before .before .before .before .args .t1)
-    _ (c .before .before .before .before .before .certified-ids .ensures)
+verified-of-requires c κs = let s = c .before .before .before .before .before in
+    listed-most (s .before .args .t1) _ (s .certified-ids .ensures)
 
 add-sum : tie.Need-add-sum Inv-loop μ-loop
 add-sum c = omega (arith, c .verified-of .ensures, c .before .before .before .loop .inv)
@@ -56,26 +56,23 @@ loop-less c = omega arith
 
 loop-again : tie.Need-loop-again Inv-loop μ-loop
 unfolding linkAt
-loop-again c = let b = c .before .before .before .before .before .before .before .args .t1 in
-    let l = c .before .before .before .loop in let v = c .verified-of .ensures in
-    let e = c .before .before .before .before .before .before .certified-ids .ensures in
+loop-again c = let m = c .before .before .before in let l = m .loop in let v = c .verified-of .ensures in
+    let s = m .before .before .before in let b = s .before .args .t1 in let e = s .certified-ids .ensures in
     let here = v .0 ∙ ap (λ (ids : List ℕ). sumOver ids (λ g. bit (holdsVerify (linkAt b (l .i)) g))) (listed (certified b) _ e) in (
       omega arith,
       (
         omega (arith, v, listed-most b _ e),
-        sum-grows (λ m. sumOver (certified b) (λ g. bit (holdsVerify (linkAt b m) g)))
+        sum-grows (λ k. sumOver (certified b) (λ g. bit (holdsVerify (linkAt b k) g)))
             (l .i) _ (l .sum) (c .verified-of .result) (l .inv .1 .1) here,
       ),
     )
 
 returns : tie.Need-returns Inv-loop μ-loop
-returns c = let b = c .before .before .before .before .before .args .t1 in
-    let l = c .before .loop in let e = c .before .before .before .before .certified-ids .ensures in
-    let all : l .i ≡ linkCount b = unfold linkCount in omega (arith, c .before .before .link-count .ensures) in
-    let f : ℕ → ℕ = λ m. sumOver (certified b) (λ g. bit (holdsVerify (linkAt b m) g)) in (
-      l .inv .1 .1 ∙ ap₂ (λ (k m : ℕ). k + Sums.sum m f) (listed-count (certified b) _ e) all ∙ sym (tally-by-links b),
-      omega (arith, c .before .before .link-count .ensures),
-    )
+returns c = let m = c .before in let l = m .loop in let k = m .before .link-count .ensures in
+    let s = m .before .before .before in let b = s .before .args .t1 in let e = s .certified-ids .ensures in
+    let all : l .i ≡ linkCount b = unfold linkCount in omega (arith, k) in
+    let f : ℕ → ℕ = λ i. sumOver (certified b) (λ g. bit (holdsVerify (linkAt b i) g)) in
+    (l .inv .1 .1 ∙ ap₂ (λ (c i : ℕ). c + Sums.sum i f) (listed-count (certified b) _ e) all ∙ sym (tally-by-links b), omega (arith, k))
 
 pub tally-sum-spec : {M : Type 1} → statement M
 tally-sum-spec =

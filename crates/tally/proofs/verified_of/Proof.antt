@@ -47,9 +47,8 @@ loop-less c = omega arith
 
 loop-again : tie.Need-loop-again Inv-loop μ-loop
 unfolding holdsVerify verifiesOf
-loop-again c = let a = c .before .before .before .before .before .before .before .args in
-    let l = c .before .before .before .before .before .before .loop in let o = c .one .ensures in
-    let z : length (a .t2) ≡ mostBases = c .before .before .before .before .before .before .before .good .1 .0 .1 .0 .1 in (
+loop-again c = let m = c .before .before .before .before .before .before in let l = m .loop in let o = c .one .ensures in
+    let s = m .before in let a = s .args in let z : length (a .t2) ≡ mostBases = s .good .1 .0 .1 .0 .1 in (
       omega (arith, o),
       sum-back (a .t2) (a .count) (l .j) (l .sum) (c .one .result) (λ g. bit (holdsVerify (a .t1) g))
           (omega arith) (omega arith) (omega arith) (l .inv .1) (o .0 ∙ ap bit (c .before .holds .ensures)),
