@@ -1,6 +1,7 @@
 // The leader: of a list, and of a base.
 use protocol::Base;
 use protocol::Leader;
+use protocol::PRIME;
 use soundness::refusals::record_refusal;
 ghost use mathlib.Core.Path.{_≡_};
 ghost use Rattle.protocol.specs.Steps.{leaderOf, leaderAnswer};
@@ -28,7 +29,7 @@ pub fn leader(base: Base) -> Leader
     if refusal != 0 {
         return Leader::Refused(refusal);
     }
-    if base.state < 2 {
+    if base.state < PRIME {
         return Leader::NotStopped;
     }
     let list = base.final_list;

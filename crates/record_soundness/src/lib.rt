@@ -7,6 +7,9 @@ use link_soundness::place_sound;
 use lists::differ;
 use lists::zero_behind;
 use protocol::Base;
+use protocol::IDLE;
+use protocol::PRIME;
+use protocol::SECONDARY;
 ghost use mathlib.Core.Path.{_≡_};
 ghost use Rattle.protocol.specs.Sound.{linksSound, linksEmpty, announcesSound, finalSound, idleSound, sound};
 
@@ -52,7 +55,7 @@ fn final_sound(base: Base) -> bool
     ensures { λ r. ⌜ r ≡ finalSound base ⌝ }
 {
     let list = base.final_list;
-    if 2 <= base.state {
+    if PRIME <= base.state {
         return list_sound(base.n, list);
     }
     zero_behind(&list, 0)
@@ -61,7 +64,7 @@ fn final_sound(base: Base) -> bool
 fn idle_sound(base: Base) -> bool
     ensures { λ r. ⌜ r ≡ idleSound base ⌝ }
 {
-    if base.state != 0 {
+    if base.state != IDLE {
         return true;
     }
     if base.sent != 0 {
@@ -73,7 +76,7 @@ fn idle_sound(base: Base) -> bool
 pub fn is_sound(base: Base) -> bool
     ensures { λ r. ⌜ r ≡ sound base ⌝ }
 {
-    if 3 < base.state {
+    if SECONDARY < base.state {
         return false;
     }
     if 1 < base.sent {

@@ -4,6 +4,7 @@ use limits::LIST_ROOM;
 use limits::MOST_BASES;
 use limits::MOST_LINKS;
 use protocol::Base;
+use protocol::IDLE;
 use protocol::Link;
 ghost use mathlib.Core.Path.{_≡_};
 ghost use Rattle.protocol.specs.Sound.{idleBase};
@@ -29,7 +30,7 @@ fn idle_base(n: u8, t: u8, own: u32) -> Base
     Base {
         n,
         t,
-        state: 0,
+        state: IDLE,
         sent: 0,
         own,
         final_list: [0u32; MOST_BASES],

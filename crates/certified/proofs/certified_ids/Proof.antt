@@ -53,8 +53,9 @@ loop-less c = omega arith
 
 loop-again : tie.Need-loop-again Inv-loop μ-loop
 unfolding linkAt
-loop-again c = let b = c .before .before .before .before .before .before .args .t1 in let l = c .before .before .before .before .loop in (
-  gather-taken b (l .ids) (l .count) (l .i) (omega arith) (l .inv .0) (sym (c .before .has-announce .ensures) ∙ c .if1 .taken),
+loop-again c = let m = c .before .before .before .before in let l = m .loop in (
+  gather-taken (m .before .before .args .t1) (l .ids) (l .count) (l .i) (omega arith) (l .inv .0)
+      (sym (c .before .has-announce .ensures) ∙ c .if1 .taken),
   omega arith,
 )
 
@@ -63,8 +64,9 @@ loop-less-2 c = omega arith
 
 loop-again-2 : tie.Need-loop-again-2 Inv-loop μ-loop
 unfolding linkAt
-loop-again-2 c = let b = c .before .before .before .before .before .before .args .t1 in let l = c .before .before .before .before .loop in (
-  gather-left b (l .ids) (l .count) (l .i) (omega arith) (l .inv .0) (sym (c .before .has-announce .ensures) ∙ c .if1 .left),
+loop-again-2 c = let m = c .before .before .before .before in let l = m .loop in (
+  gather-left (m .before .before .args .t1) (l .ids) (l .count) (l .i) (omega arith) (l .inv .0)
+      (sym (c .before .has-announce .ensures) ∙ c .if1 .left),
   omega arith,
 )
 

@@ -1,25 +1,23 @@
--- `record_soundness::links_empty` meets its contract. Invariant: every place passes exactly if every place below i does.
-use Prim.Native.Nat.{ℕ, _≤_, _-_, _+_}
-use mathlib.Core.Path.{_≡_, refl, sym, ap, _∙_}
+-- `record_soundness::links_empty` meets its contract: the places are tested from the last to the first.
+use mathlib.Core.Path.{sym, _∙_}
 use native.Mathlib.Omega.{arith}
 use borrow.Author.Tests.{not-true, not-false}
 use borrow.Author.Needs.{needs}
-use Rattle.protocol.specs.Sound.{linksEmpty, linkEmpty}
-use Rattle.protocol.specs.Record.{linkAt}
-use Rattle.counting.specs.Sums.Loops.{all-broken, all-goes-on}
-use Rattle.counting.specs.Sums.{all}
 use Rattle.limits.specs.Limits.{mostLinks}
+use Rattle.protocol.specs.Record.{linkAt}
+use Rattle.protocol.specs.Sound.{linksEmpty, linkEmpty}
+use Rattle.record_soundness.proofs.Each.{PassedFrom, passed-none, passed-next, passed-fails, passed-all}
 use Rattle.record_soundness.proofs.links_empty.Statement.{statement}
 use Rattle.record_soundness.proofs.links_empty.Tie as tie
 
 abbrev Inv-loop : tie.InvT-loop
-Inv-loop base i₀ i = (i ≤ mostLinks) × (all mostLinks (λ j. linkEmpty (linkAt base j)) ≡ all i (λ j. linkEmpty (linkAt base j)))
+Inv-loop base i₀ i = PassedFrom mostLinks (λ j. linkEmpty (linkAt base j)) i
 
 abbrev μ-loop : tie.MeasureT-loop
 μ-loop base i₀ i = i
 
 loop-holds : tie.Need-loop-holds Inv-loop μ-loop
-loop-holds c = (omega arith, refl)
+loop-holds c = passed-none _ _
 
 sub-j : tie.Need-sub-j Inv-loop μ-loop
 sub-j c = omega arith
@@ -35,27 +33,20 @@ link-empty-requires c κs = search needs
 
 returns : tie.Need-returns Inv-loop μ-loop
 unfolding linksEmpty linkAt
-returns c = let base = c .before .before .before .before .before .args .t1 in
-    let l = c .before .before .before .before .loop in let e : l .i ≡ l .i - 1 + 1 = omega arith in
-    sym (l .inv .1 ∙ ap (λ (k : ℕ). all k (λ j. linkEmpty (linkAt base j))) e
-    ∙ all-broken (λ j. linkEmpty (linkAt base j)) (l .i - 1) (sym (c .before .link-empty .ensures) ∙ not-true _ (c .if1 .taken)))
+returns c = let s = c .before .before .before in
+    passed-fails _ _ (s .before .loop .inv) (s .loop-test .taken) (sym (c .before .link-empty .ensures) ∙ not-true _ (c .if1 .taken))
 
 loop-less : tie.Need-loop-less Inv-loop μ-loop
 loop-less c = omega arith
 
 loop-again : tie.Need-loop-again Inv-loop μ-loop
 unfolding linkAt
-loop-again c = let base = c .before .before .before .before .before .args .t1 in
-    let l = c .before .before .before .before .loop in let e : l .i ≡ l .i - 1 + 1 = omega arith in (
-      omega arith,
-      l .inv .1 ∙ ap (λ (k : ℕ). all k (λ j. linkEmpty (linkAt base j))) e
-          ∙ all-goes-on (λ j. linkEmpty (linkAt base j)) (l .i - 1) (sym (c .before .link-empty .ensures) ∙ not-false _ (c .if1 .left)),
-    )
+loop-again c = let s = c .before .before .before in
+    passed-next _ _ (s .before .loop .inv) (s .loop-test .taken) (sym (c .before .link-empty .ensures) ∙ not-false _ (c .if1 .left))
 
 returns-2 : tie.Need-returns-2 Inv-loop μ-loop
-unfolding linksEmpty all
-returns-2 c = let base = c .before .before .args .t1 in let l = c .before .loop in let e : l .i ≡ 0 = omega arith in
-    sym (l .inv .1 ∙ ap (λ (k : ℕ). all k (λ j. linkEmpty (linkAt base j))) e)
+unfolding linksEmpty
+returns-2 c = passed-all _ _ (c .before .loop .inv) (omega arith)
 
 pub links-empty-spec : {M : Type 1} → statement M
 links-empty-spec =
