@@ -1,4 +1,4 @@
--- What an event does to the program's net. The call, and the number by which the event is turned down, are those of protocol's Net,
+-- What an event does to the program's net. The call, and the number by which the event is turned down, are those of protocol's StoredNet,
 -- for the net that the program's net stands for.
 use Prim.Native.Nat.{ℕ, _-_}
 use mathlib.Core.List.{List, []}
@@ -13,9 +13,9 @@ use Rattle.protocol.specs.Net as Nets
 use Rattle.node.specs.declared.Node.{Node}
 use Rattle.node.specs.Node.{logOf, heardBy, marked}
 use Rattle.node.specs.Node as Nodes
-use Rattle.net.specs.declared.Net.{Net}
+use Rattle.net.specs.declared.StoredNet.{StoredNet}
 use Rattle.events.specs.declared.Reached.{Reached}
-use Rattle.net.specs.Shown.{nodeAt, withNode, shown, faultyOf}
+use Rattle.net.specs.Abstraction.{nodeAt, withNode, netOf, faultyOf}
 pub mod Laws
 
 -- "a carry joins the carries made"
@@ -25,18 +25,18 @@ marks (carry a b k room) v = marked v a k
 marks (forge a b bytes room) v = v
 
 -- "An event that is turned down, by 16 to 18 or by the base's call, changes nothing"
-unfoldable pub after : Net → Event → Net
-after w e = choose (eqb (refusal (faultyOf w) (shown w) e) 0)
-    (withNode w (at e) (marks e (Nodes.nodeAfter (nodeAt w (at e)) (call (shown w) e)))) w
+unfoldable pub after : StoredNet → Event → StoredNet
+after w e = choose (eqb (refusal (faultyOf w) (netOf w) e) 0)
+    (withNode w (at e) (marks e (Nodes.nodeAfter (nodeAt w (at e)) (call (netOf w) e)))) w
 
 -- the net after an event, beside the number by which a line of a schedule is refused: a burst that the base's call turns down
 -- leaves the schedule running
 pub record Moved : Type 0 where
   pub refusal : ℕ
-  pub net : Net
+  pub net : StoredNet
 
-unfoldable pub moved : Net → Event → Moved
-moved w e = record { refusal = eventRefusal (faultyOf w) (shown w) e; net = after w e }
+unfoldable pub moved : StoredNet → Event → Moved
+moved w e = record { refusal = eventRefusal (faultyOf w) (netOf w) e; net = after w e }
 
 -- ---- parts
 -- numbers 16 and 17, of the sender and the receiver

@@ -1,2 +1,2 @@
 pub mod Events
-pub mod Stands
+pub mod Represents

@@ -1,5 +1,5 @@
 // A carry and a forgery, each on the nodes that it names. What is turned down, by 16 to 18 or by the base's call, leaves the base
-// that it would reach as it was. A start is the call alone (crate `calls`). specs/Stands.antt has what these do to the net.
+// that it would reach as it was. A start is the call alone (crate `calls`). specs/Represents.antt has what these do to the net.
 use net::Faulty;
 use net::links::is_good;
 use node::Node;
@@ -13,7 +13,7 @@ use numbering::link_to;
 use reader::Reading;
 use reader::read;
 ghost use mathlib.Core.Path.{_≡_};
-ghost use Rattle.net.specs.Shown.{pairsOf};
+ghost use Rattle.net.specs.Abstraction.{pairsOf};
 ghost use Rattle.events.specs.Events.{carryRefusal, carriedTo, forgedTo};
 
 // The base that an event reaches, as the event left it, beside 16, 17 or 18 where that turned the event down, else 0.

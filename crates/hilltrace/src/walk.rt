@@ -8,7 +8,7 @@ use lines::bases::Two;
 use lines::header::faulty_line;
 use lines::header::id_line;
 use lines::header::net_line;
-use net::Net;
+use net::StoredNet;
 use net::links::faulty_refusal;
 use net::links::is_good;
 use net::links::with_faulty;
@@ -19,7 +19,7 @@ use soundness::refusals::setting_refusal;
 use text::number::Number;
 
 pub(crate) struct Walk {
-    pub net: Net,
+    pub net: StoredNet,
     // Where the next line begins, and its number.
     pub at: usize,
     pub line: usize,
@@ -44,7 +44,7 @@ pub(crate) fn show_line(s: &[u8], walk: Walk, next: usize) {
 }
 
 // The next line leaves this net.
-pub(crate) fn onward(walk: Walk, net: Net, next: usize) -> Walk {
+pub(crate) fn onward(walk: Walk, net: StoredNet, next: usize) -> Walk {
     Walk {
         net,
         at: next,

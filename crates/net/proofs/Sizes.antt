@@ -5,7 +5,7 @@ use lib.ListN.{length, length-map}
 use denote.Laws.{Is}
 use mir.Val.{Val}
 use Rattle.net.specs.declared.Faulty.{Faulty}
-use Rattle.net.specs.Shown.{faultyRoom}
+use Rattle.net.specs.Abstraction.{faultyRoom}
 use Rattle.net.proofs.Faulty as F
 
 pub faulty-sized : (f : Faulty) (vs : List Val) → Is F.the-row f vs → length (f .pairs) ≡ faultyRoom

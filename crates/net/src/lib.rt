@@ -1,4 +1,4 @@
-// A whole net as the program keeps it: one node a base, and the links that are faulty. specs/Shown.antt says which net of document
+// A whole net as the program keeps it: one node a base, and the links that are faulty. specs/Abstraction.antt says which net of document
 // 01 it stands for.
 pub mod links;
 pub mod made;
@@ -11,7 +11,7 @@ use node::Node;
 pub const MOST_FAULTY: usize = (MOST_BASES - 2) / 2;
 
 // A link by its two bases.
-pub struct Pair {
+pub struct FaultyLink {
     pub one: u8,
     pub other: u8,
 }
@@ -19,10 +19,10 @@ pub struct Pair {
 // The faulty links, in the order in which they were named.
 pub struct Faulty {
     pub count: usize,
-    pub pairs: [Pair; MOST_FAULTY],
+    pub pairs: [FaultyLink; MOST_FAULTY],
 }
 
-pub struct Net {
+pub struct StoredNet {
     pub n: u8,
     pub t: u8,
     pub faulty: Faulty,

@@ -1,18 +1,19 @@
 // The links that are named faulty.
 use crate::Faulty;
+use crate::FaultyLink;
 use crate::MOST_FAULTY;
-use crate::Net;
-use crate::Pair;
+use crate::StoredNet;
 ghost use mathlib.Core.Path.{_≡_};
 ghost use lib.ListN.{length};
 ghost use Prim.Native.Nat.{_≤_};
 ghost use lib.Dec.{eqb};
 ghost use Rattle.lists.specs.Choice.{and};
 ghost use Rattle.protocol.specs.Net.{joins, good};
-ghost use Rattle.net.specs.Shown.{pairOf, pairsOf, faultyRoom};
-ghost use Rattle.net.specs.Header.{faultyRefusal, withFaulty};
+ghost use Rattle.net.specs.Abstraction.{pairOf, pairsOf, faultyRoom};
+ghost use Rattle.net.specs.Header.{markedNet};
+ghost use Rattle.schedule.specs.Header.{faultyRefusal};
 
-fn is_from(pair: Pair, a: u8, b: u8) -> bool
+fn is_from(pair: FaultyLink, a: u8, b: u8) -> bool
     ensures { λ r. ⌜ r ≡ and (eqb (pair .one) a) (eqb (pair .other) b) ⌝ }
 {
     if pair.one != a {
@@ -21,7 +22,7 @@ fn is_from(pair: Pair, a: u8, b: u8) -> bool
     pair.other == b
 }
 
-fn joins_bases(pair: Pair, a: u8, b: u8) -> bool
+fn joins_bases(pair: FaultyLink, a: u8, b: u8) -> bool
     ensures { λ r. ⌜ r ≡ joins (pairOf pair) a b ⌝ }
 {
     if is_from(pair, a, b) {
@@ -66,15 +67,15 @@ pub fn faulty_refusal(faulty: Faulty, t: u8) -> u8
 }
 
 // The net with the link between a and b named faulty.
-pub fn with_faulty(net: Net, a: u8, b: u8) -> Net
-    ensures { λ r. ⌜ r ≡ withFaulty net a b ⌝ }
+pub fn with_faulty(net: StoredNet, a: u8, b: u8) -> StoredNet
+    ensures { λ r. ⌜ r ≡ markedNet net a b ⌝ }
 {
     let mut faulty = net.faulty;
     let count = faulty.count;
     if MOST_FAULTY <= count {
         return net;
     }
-    let pair = Pair { one: a, other: b };
+    let pair = FaultyLink { one: a, other: b };
     faulty.pairs[count] = pair;
     faulty.count = count + 1;
     let mut after = net;

@@ -1,8 +1,8 @@
 // A net at the beginning: n and t, then an identifier for each base.
 use crate::Faulty;
+use crate::FaultyLink;
 use crate::MOST_FAULTY;
-use crate::Net;
-use crate::Pair;
+use crate::StoredNet;
 use crate::nodes::base_of;
 use crate::nodes::empty_node;
 use crate::nodes::idle_base;
@@ -11,20 +11,21 @@ use crate::nodes::with_node;
 use limits::MOST_BASES;
 ghost use mathlib.Core.Path.{_≡_};
 ghost use Rattle.limits.specs.Limits.{mostBases};
-ghost use Rattle.net.specs.Shown.{shown};
-ghost use Rattle.net.specs.Header.{madeNet, namedNet, owned, idRefusal};
+ghost use Rattle.net.specs.Abstraction.{netOf};
+ghost use Rattle.net.specs.Header.{madeNet, namedNet};
+ghost use Rattle.schedule.specs.Header.{owned, idRefusal};
 
 // The net of n bases of which none has an identifier yet, with no faulty link.
-pub fn made(n: u8, t: u8) -> Net
+pub fn made(n: u8, t: u8) -> StoredNet
     ensures { λ r. ⌜ r ≡ madeNet n t ⌝ }
 {
-    let pair = Pair { one: 0, other: 0 };
+    let pair = FaultyLink { one: 0, other: 0 };
     let faulty = Faulty {
         count: 0,
         pairs: [pair; MOST_FAULTY],
     };
     let node = empty_node(n, t);
-    Net {
+    StoredNet {
         n,
         t,
         faulty,
@@ -33,7 +34,7 @@ pub fn made(n: u8, t: u8) -> Net
 }
 
 // The net at the beginning with v as the identifier of base b.
-pub fn named(net: Net, b: u8, v: u32) -> Net
+pub fn named(net: StoredNet, b: u8, v: u32) -> StoredNet
     ensures { λ r. ⌜ r ≡ namedNet net b v ⌝ }
 {
     let mut node = node_at(net, b);
@@ -43,8 +44,8 @@ pub fn named(net: Net, b: u8, v: u32) -> Net
 }
 
 // Whether a base has the identifier v.
-fn is_owned(net: Net, v: u32) -> bool
-    ensures { λ r. ⌜ r ≡ owned mostBases (shown net) v ⌝ }
+fn is_owned(net: StoredNet, v: u32) -> bool
+    ensures { λ r. ⌜ r ≡ owned mostBases (netOf net) v ⌝ }
 {
     let mut b = MOST_BASES;
     while 0 < b {
@@ -58,8 +59,8 @@ fn is_owned(net: Net, v: u32) -> bool
 }
 
 // Numbers 3 and 14, 0 for none.
-pub fn id_refusal(net: Net, v: u32) -> u8
-    ensures { λ r. ⌜ r ≡ idRefusal (shown net) v ⌝ }
+pub fn id_refusal(net: StoredNet, v: u32) -> u8
+    ensures { λ r. ⌜ r ≡ idRefusal (netOf net) v ⌝ }
 {
     if v == 0 {
         return 3;

@@ -1,5 +1,5 @@
 // The bases of a net by their numbers, from 1.
-use crate::Net;
+use crate::StoredNet;
 use limits::LONGEST_FRAME;
 use limits::MOST_BASES;
 use node::Frame;
@@ -10,7 +10,7 @@ use protocol::Base;
 use soundness::idle::make_idle;
 ghost use mathlib.Core.Path.{_≡_};
 ghost use Rattle.protocol.specs.Sound.{idleBase};
-ghost use Rattle.net.specs.Shown.{emptyNode, nodeAt, withNode, shown};
+ghost use Rattle.net.specs.Abstraction.{emptyNode, nodeAt, withNode, netOf};
 
 // The record of an idle base. A base that has no identifier yet has zero.
 pub(crate) fn idle_base(n: u8, t: u8, own: u32) -> Base
@@ -42,7 +42,7 @@ pub(crate) fn empty_node(n: u8, t: u8) -> Node
 }
 
 // Base b; for a number that no base has, one that is as at the beginning.
-pub fn node_at(net: Net, b: u8) -> Node
+pub fn node_at(net: StoredNet, b: u8) -> Node
     ensures { λ r. ⌜ r ≡ nodeAt net b ⌝ }
 {
     let place = b as usize;
@@ -56,7 +56,7 @@ pub fn node_at(net: Net, b: u8) -> Node
 }
 
 // The net with base b replaced.
-pub fn with_node(net: Net, b: u8, node: Node) -> Net
+pub fn with_node(net: StoredNet, b: u8, node: Node) -> StoredNet
     ensures { λ r. ⌜ r ≡ withNode net b node ⌝ }
 {
     let at = b as usize;
@@ -72,8 +72,8 @@ pub fn with_node(net: Net, b: u8, node: Node) -> Net
 }
 
 // The record of base b.
-pub fn base_of(net: Net, b: u8) -> Base
-    ensures { λ r. ⌜ r ≡ shown net .base b ⌝ }
+pub fn base_of(net: StoredNet, b: u8) -> Base
+    ensures { λ r. ⌜ r ≡ netOf net .base b ⌝ }
 {
     let node = node_at(net, b);
     node.base

@@ -20,12 +20,12 @@ use Rattle.node.specs.declared.Node.{Node}
 use Rattle.node.specs.Node.{inRange}
 use Rattle.node.specs.Node as Nodes
 use Rattle.node.specs.Node.Within.{is-within}
-use Rattle.net.specs.declared.Net.{Net}
-use Rattle.net.specs.Shown.{noNode, emptyNode, nodeAt, withNode, shown, faultyOf}
+use Rattle.net.specs.declared.StoredNet.{StoredNet}
+use Rattle.net.specs.Abstraction.{noNode, emptyNode, nodeAt, withNode, netOf, faultyOf}
 use Rattle.events.specs.declared.Reached.{Reached}
 use Rattle.events.specs.Events.{moved, carriedTo, forgedTo}
 use Rattle.events.specs.Events.Laws.{set-self, reachedNode, reached-stored, start-reaches, carry-reaches, forge-reaches}
-use Rattle.replay.specs.Play.{happened}
+use Rattle.replay.specs.State.{happened}
 
 -- the bases that a line names; of a line that has not the form, none
 unfoldable pub senderOf : Line → ℕ
@@ -41,8 +41,8 @@ receiverOf (Forge a b at count next) = b
 receiverOf Wrong = 0
 
 -- where base b stands
-unfoldable pub placeOf : ℕ → ℕ
-placeOf b = choose (inRange b mostBases) (b - 1) 0
+unfoldable pub nodePlace : ℕ → ℕ
+nodePlace b = choose (inRange b mostBases) (b - 1) 0
 
 -- the base that the line reaches, as the line leaves it, and the number by which the line is turned down
 unfoldable pub reachedBy : List ℕ → Node → Node → List Pair → Line → Reached
@@ -52,63 +52,63 @@ reachedBy s v u faulty (Forge a b at count next) = forgedTo u faulty a b (hexByt
 reachedBy s v u faulty Wrong = record { refusal = 13; node = u }
 
 -- ---- in the net
-abbrev pub stored : Net → ℕ → Node → Net
+abbrev pub stored : StoredNet → ℕ → Node → StoredNet
 stored w i v = record { n = w .n; t = w .t; faulty = w .faulty; nodes = set (w .nodes) i v }
 
-abbrev standing : Net → ℕ → Node
-standing w b = getD (w .nodes) (placeOf b) noNode
+abbrev standing : StoredNet → ℕ → Node
+standing w b = getD (w .nodes) (nodePlace b) noNode
 
-module _ (w : Net) (few : w .n ≤ mostBases) where
+module _ (w : StoredNet) (few : w .n ≤ mostBases) where
   in-net : (b : ℕ) → isBase (w .n) b ≡ true → inRange b mostBases ≡ true
   in-net b e = let r = net-base-range (w .n) b e in is-within (r .0) (omega arith)
 
-  place-is : (b : ℕ) → inRange b mostBases ≡ true → placeOf b ≡ b - 1
-  unfolding placeOf
+  place-is : (b : ℕ) → inRange b mostBases ≡ true → nodePlace b ≡ b - 1
+  unfolding nodePlace
   place-is b B = choose-yes _ _ B
 
-  stands-there : (b : ℕ) → inRange b mostBases ≡ true → standing w b ≡ nodeAt w b
-  stands-there b B = ap (λ (i : ℕ). getD (w .nodes) i noNode) (place-is b B)
+  node-there : (b : ℕ) → inRange b mostBases ≡ true → standing w b ≡ nodeAt w b
+  node-there b B = ap (λ (i : ℕ). getD (w .nodes) i noNode) (place-is b B)
       ∙ (unfold nodeAt in sym (choose-yes (getD (w .nodes) (b - 1) noNode) (emptyNode (w .n) (w .t)) B))
 
-  stored-there : (b : ℕ) (v : Node) → inRange b mostBases ≡ true → stored w (placeOf b) v ≡ withNode w b v
+  stored-there : (b : ℕ) (v : Node) → inRange b mostBases ≡ true → stored w (nodePlace b) v ≡ withNode w b v
   stored-there b v B = ap (λ (i : ℕ). stored w i v) (place-is b B) ∙ (unfold withNode in sym (choose-yes (stored w (b - 1) v) w B))
 
   event-is : (e : Event) {r : Reached}
-      → inRange (at e) mostBases ≡ true → r ≡ record { refusal = eventRefusal (faultyOf w) (shown w) e; node = reachedNode w e }
-      → record { refusal = r .refusal; net = stored w (placeOf (at e)) (r .node) } ≡ moved w e
+      → inRange (at e) mostBases ≡ true → r ≡ record { refusal = eventRefusal (faultyOf w) (netOf w) e; node = reachedNode w e }
+      → record { refusal = r .refusal; net = stored w (nodePlace (at e)) (r .node) } ≡ moved w e
   unfolding moved
-  event-is e B q = rw q (ap (λ (x : Net). record { refusal = eventRefusal (faultyOf w) (shown w) e; net = x })
+  event-is e B q = rw q (ap (λ (x : StoredNet). record { refusal = eventRefusal (faultyOf w) (netOf w) e; net = x })
       (stored-there (at e) (reachedNode w e) B ∙ reached-stored w e))
 
   turn-is : (s : List ℕ) (p : ℕ) (x : Line) → EventTold (w .n) s p x
       → record {
         refusal = reachedBy s (standing w (senderOf x)) (standing w (receiverOf x)) (faultyOf w) x .refusal;
         net = stored
-            w (placeOf (receiverOf x)) (reachedBy s (standing w (senderOf x)) (standing w (receiverOf x)) (faultyOf w) x .node);
+            w (nodePlace (receiverOf x)) (reachedBy s (standing w (senderOf x)) (standing w (receiverOf x)) (faultyOf w) x .node);
       }
       ≡ happened s w x
   unfolding senderOf receiverOf reachedBy happened at
   turn-is s p (Start b next) T =
       let B = in-net b (T .0) in
-      let none : 0 ≡ eventRefusal (faultyOf w) (shown w) (starts b outputRoom) = unfold eventRefusal in refl in
+      let none : 0 ≡ eventRefusal (faultyOf w) (netOf w) (starts b outputRoom) = unfold eventRefusal in refl in
       event-is (starts b outputRoom)
-      B (ap₂ (λ (r : ℕ) (v : Node). record { refusal = r; node = v }) none (rw (stands-there b B) (start-reaches w b)))
+      B (ap₂ (λ (r : ℕ) (v : Node). record { refusal = r; node = v }) none (rw (node-there b B) (start-reaches w b)))
   turn-is s p (Carry a b k next) T =
       let t = two-range (w .n) a b (T .0) in
       let A = in-net a (t .0) in
       let B = in-net b (t .1 .0) in
-      event-is (carry a b k outputRoom) B (rw (stands-there a A, stands-there b B) (carry-reaches w a b k))
+      event-is (carry a b k outputRoom) B (rw (node-there a A, node-there b B) (carry-reaches w a b k))
   turn-is s p (Forge a b i count next) T =
       let t = two-range (w .n) a b (T .0) in
       let B = in-net b (t .1 .0) in
       event-is (forge a b (hexBytes count (drop i s)) outputRoom)
-      B (rw (stands-there b B) (forge-reaches w a b (hexBytes count (drop i s))))
+      B (rw (node-there b B) (forge-reaches w a b (hexBytes count (drop i s))))
   turn-is s p Wrong T = ap (λ (l : List Node). record
-      { refusal = 13; net = record { n = w .n; t = w .t; faulty = w .faulty; nodes = l } }) (set-self (w .nodes) (placeOf 0) noNode)
+      { refusal = 13; net = record { n = w .n; t = w .t; faulty = w .faulty; nodes = l } }) (set-self (w .nodes) (nodePlace 0) noNode)
 
 -- the line that the loop read
-pub turned : (s : List ℕ) (w : Net) (p : ℕ) (x : Line) {i j : ℕ} {r : Reached}
-    → w .n ≤ mostBases → x ≡ eventLine (w .n) s p → j ≡ placeOf (senderOf x) → i ≡ placeOf (receiverOf x)
+pub turned : (s : List ℕ) (w : StoredNet) (p : ℕ) (x : Line) {i j : ℕ} {r : Reached}
+    → w .n ≤ mostBases → x ≡ eventLine (w .n) s p → j ≡ nodePlace (senderOf x) → i ≡ nodePlace (receiverOf x)
     → r ≡ reachedBy s (getD (w .nodes) j noNode) (getD (w .nodes) i noNode) (faultyOf w) x
     → record { refusal = r .refusal; net = stored w i (r .node) } ≡ happened s w x
 turned s w p x few ex ej ei er = rw (er, ej, ei) (turn-is w few s p x (subst (EventTold (w .n) s p) (sym ex) (event-told (w .n) s p)))

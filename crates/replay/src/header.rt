@@ -1,8 +1,8 @@
 // The lines of the header.
-use crate::play::Play;
-use crate::play::onward;
-use crate::play::refuse;
-use crate::play::unread;
+use crate::state::ReplayState;
+use crate::state::onward;
+use crate::state::refuse;
+use crate::state::unread;
 use limits::net_refusal;
 use lines::bases::Two;
 use lines::header::faulty_line;
@@ -17,16 +17,16 @@ use net::made::named;
 use text::number::Number;
 ghost use mathlib.Core.Path.{_≡_};
 ghost use Prim.Native.Nat.{suc, _+_, _≤_};
-ghost use Rattle.schedule.specs.Header.{sizeRefusal};
-ghost use Rattle.replay.specs.Play.{
+ghost use Rattle.limits.specs.Refusals.{sizeRefusal};
+ghost use Rattle.replay.specs.State.{
   mostLines,
-  netPlay,
-  idPlay,
-  idPlays,
-  markedPlay,
-  faultyPlay,
-  repeatPlay,
-  headerPlay,
+  netState,
+  idState,
+  idStates,
+  markedState,
+  faultyState,
+  repeatState,
+  headerState,
 };
 
 // Numbers 1 and 2, 0 for none.
@@ -44,8 +44,8 @@ fn size_refusal(n: u32, t: u32) -> u8
 }
 
 // `net n t`
-fn net_step(s: &[u8]) -> Play
-    ensures { λ r. ⌜ r ≡ netPlay (now (s .entry)) ⌝ }
+fn net_step(s: &[u8]) -> ReplayState
+    ensures { λ r. ⌜ r ≡ netState (now (s .entry)) ⌝ }
 {
     let Two::Both(n, t, next) = net_line(s, 0) else {
         return refuse(unread(), 13);
@@ -58,89 +58,89 @@ fn net_step(s: &[u8]) -> Play
 }
 
 // `id b v`
-fn id_step(s: &[u8], b: u8, play: Play) -> Play
-    requires { ⌜ play .line ≤ mostLines ⌝ }
-    ensures { λ r. ⌜ r ≡ idPlay (now (s .entry)) b play ⌝ }
+fn id_step(s: &[u8], b: u8, state: ReplayState) -> ReplayState
+    requires { ⌜ state .line ≤ mostLines ⌝ }
+    ensures { λ r. ⌜ r ≡ idState (now (s .entry)) b state ⌝ }
 {
-    if play.refusal != 0 {
-        return play;
+    if state.refusal != 0 {
+        return state;
     }
-    let at = play.at;
+    let at = state.at;
     let Number::Value(v, next) = id_line(b, s, at) else {
-        return refuse(play, 13);
+        return refuse(state, 13);
     };
-    let net = play.net;
+    let net = state.net;
     let refusal = id_refusal(net, v);
     if refusal != 0 {
-        return refuse(play, refusal);
+        return refuse(state, refusal);
     }
-    onward(play, named(net, b, v), next)
+    onward(state, named(net, b, v), next)
 }
 
 // `id b v` for b = 1 to n
-fn id_steps(s: &[u8], n: u8, first: Play) -> Play
+fn id_steps(s: &[u8], n: u8, first: ReplayState) -> ReplayState
     requires { ⌜ first .line ≤ 2 ⌝ }
-    ensures { λ r. ⌜ r ≡ idPlays (now (s .entry)) n first ⌝ }
+    ensures { λ r. ⌜ r ≡ idStates (now (s .entry)) n first ⌝ }
 {
-    let mut play = first;
+    let mut state = first;
     let mut b: u8 = 0;
     while b < n {
         b += 1;
-        play = id_step(s, b, play);
+        state = id_step(s, b, state);
     }
-    play
+    state
 }
 
 // The link between a and b is faulty, if one more may be.
-fn mark_faulty(play: Play, a: u8, b: u8, next: usize) -> Play
-    requires { ⌜ play .line ≤ mostLines ⌝ }
-    ensures { λ r. ⌜ r ≡ markedPlay play a b next ⌝ }
+fn mark_faulty(state: ReplayState, a: u8, b: u8, next: usize) -> ReplayState
+    requires { ⌜ state .line ≤ mostLines ⌝ }
+    ensures { λ r. ⌜ r ≡ markedState state a b next ⌝ }
 {
-    let net = play.net;
+    let net = state.net;
     let faulty = net.faulty;
     if is_good(faulty, a, b) {
         let refusal = faulty_refusal(faulty, net.t);
         if refusal != 0 {
-            return refuse(play, refusal);
+            return refuse(state, refusal);
         }
-        return onward(play, with_faulty(net, a, b), next);
+        return onward(state, with_faulty(net, a, b), next);
     }
-    refuse(play, 13)
+    refuse(state, 13)
 }
 
 // `faulty a b`, if that is the next line
-fn faulty_step(s: &[u8], play: Play) -> Play
-    requires { ⌜ play .line ≤ mostLines ⌝ }
-    ensures { λ r. ⌜ r ≡ faultyPlay (now (s .entry)) play ⌝ }
+fn faulty_step(s: &[u8], state: ReplayState) -> ReplayState
+    requires { ⌜ state .line ≤ mostLines ⌝ }
+    ensures { λ r. ⌜ r ≡ faultyState (now (s .entry)) state ⌝ }
 {
-    if play.refusal != 0 {
-        return play;
+    if state.refusal != 0 {
+        return state;
     }
-    let net = play.net;
-    let at = play.at;
+    let net = state.net;
+    let at = state.at;
     let Two::Both(a, b, next) = faulty_line(net.n, s, at) else {
-        return play;
+        return state;
     };
-    mark_faulty(play, a as u8, b as u8, next)
+    mark_faulty(state, a as u8, b as u8, next)
 }
 
 // As many lines as there may be, and one more
-fn faulty_steps(s: &[u8], t: u8, first: Play) -> Play
+fn faulty_steps(s: &[u8], t: u8, first: ReplayState) -> ReplayState
     requires { ⌜ first .line ≤ 258 ⌝ }
-    ensures { λ r. ⌜ r ≡ repeatPlay (suc t) (faultyPlay (now (s .entry))) first ⌝ }
+    ensures { λ r. ⌜ r ≡ repeatState (suc t) (faultyState (now (s .entry))) first ⌝ }
 {
     let most = (t as usize) + 1;
-    let mut play = first;
+    let mut state = first;
     let mut k: usize = 0;
     while k < most {
-        play = faulty_step(s, play);
+        state = faulty_step(s, state);
         k += 1;
     }
-    play
+    state
 }
 
-pub(crate) fn play_header(s: &[u8]) -> Play
-    ensures { λ r. ⌜ r ≡ headerPlay (now (s .entry)) ⌝ }
+pub(crate) fn read_header(s: &[u8]) -> ReplayState
+    ensures { λ r. ⌜ r ≡ headerState (now (s .entry)) ⌝ }
     ensures { λ r. ⌜ r .line ≤ 600 ⌝ }
 {
     let sized = net_step(s);

@@ -1,5 +1,5 @@
 // The lines of events.
-use crate::play::Play;
+use crate::state::ReplayState;
 use events::Reached;
 use limits::MOST_BASES;
 use lines::event::Line;
@@ -12,10 +12,10 @@ ghost use Prim.Native.Nat.{_≤_, _<_, _*_};
 ghost use lib.ListN.{length, drop};
 ghost use Rattle.limits.specs.Limits.{mostBases, longestForgery};
 ghost use Rattle.text.specs.Hex.{hexBytes};
-ghost use Rattle.net.specs.Shown.{pairsOf};
+ghost use Rattle.net.specs.Abstraction.{pairsOf};
 ghost use Rattle.events.specs.Events.{forgedTo};
-ghost use Rattle.replay.specs.Play.{HasBytes, nextOf, nextPlay, repeatPlay};
-ghost use Rattle.replay.specs.Turn.{senderOf, receiverOf, placeOf, reachedBy};
+ghost use Rattle.replay.specs.State.{HasBytes, nextOf, nextState, repeatState};
+ghost use Rattle.replay.specs.Turn.{senderOf, receiverOf, nodePlace, reachedBy};
 
 // A forgery whose bytes stand in the schedule.
 fn forge_bytes(
@@ -90,7 +90,7 @@ fn next_of(line: Line) -> usize
 
 // Where base b stands in the net.
 fn place_of(b: u8) -> usize
-    ensures { λ r. ⌜ (r ≡ placeOf b) × (r < mostBases) ⌝ }
+    ensures { λ r. ⌜ (r ≡ nodePlace b) × (r < mostBases) ⌝ }
 {
     let number = b as usize;
     if number < 1 {
@@ -104,7 +104,7 @@ fn place_of(b: u8) -> usize
 
 // Where the base stands that sends.
 fn sender_place(line: Line) -> usize
-    ensures { λ r. ⌜ (r ≡ placeOf (senderOf line)) × (r < mostBases) ⌝ }
+    ensures { λ r. ⌜ (r ≡ nodePlace (senderOf line)) × (r < mostBases) ⌝ }
 {
     match line {
         Line::Start { base, next: _ } => place_of(base),
@@ -127,7 +127,7 @@ fn sender_place(line: Line) -> usize
 
 // Where the base stands that is reached.
 fn receiver_place(line: Line) -> usize
-    ensures { λ r. ⌜ (r ≡ placeOf (receiverOf line)) × (r < mostBases) ⌝ }
+    ensures { λ r. ⌜ (r ≡ nodePlace (receiverOf line)) × (r < mostBases) ⌝ }
 {
     match line {
         Line::Start { base, next: _ } => place_of(base),
@@ -149,9 +149,9 @@ fn receiver_place(line: Line) -> usize
 }
 
 // Every line, up to the text's end or the first that is turned down. A line changes one base in its place, so that the net is not copied.
-pub(crate) fn play_history(s: &[u8], first: Play) -> Play
+pub(crate) fn read_history(s: &[u8], first: ReplayState) -> ReplayState
     requires { ⌜ (first .line ≤ 600) × (first .refusal ≡ 0 → first .net .n ≤ mostBases) ⌝ }
-    ensures { λ r. ⌜ r ≡ repeatPlay (length (now (s .entry))) (nextPlay (now (s .entry))) first ⌝ }
+    ensures { λ r. ⌜ r ≡ repeatState (length (now (s .entry))) (nextState (now (s .entry))) first ⌝ }
 {
     if first.refusal != 0 {
         return first;
@@ -162,7 +162,7 @@ pub(crate) fn play_history(s: &[u8], first: Play) -> Play
     let mut k: usize = 0;
     while k < s.len() {
         if s.len() <= at {
-            return Play {
+            return ReplayState {
                 net,
                 at,
                 line: number,
@@ -178,7 +178,7 @@ pub(crate) fn play_history(s: &[u8], first: Play) -> Play
         let reached = happen(s, sender, receiver, faulty, line);
         let refusal = reached.refusal;
         if refusal != 0 {
-            return Play {
+            return ReplayState {
                 net,
                 at,
                 line: number,
@@ -191,7 +191,7 @@ pub(crate) fn play_history(s: &[u8], first: Play) -> Play
         number += 1;
         k += 1;
     }
-    Play {
+    ReplayState {
         net,
         at,
         line: number,

@@ -2,14 +2,14 @@
 mod header;
 mod history;
 mod output;
-mod play;
+mod state;
 
-use crate::header::play_header;
-use crate::history::play_history;
+use crate::header::read_header;
+use crate::history::read_history;
 use crate::output::put_report;
-use crate::play::Play;
-use crate::play::refuse;
-use crate::play::unread;
+use crate::state::ReplayState;
+use crate::state::refuse;
+use crate::state::unread;
 use limits::LONGEST_SCHEDULE;
 use limits::MOST_BASES;
 use report::line::LINE_ROOM;
@@ -17,19 +17,19 @@ ghost use mathlib.Core.Path.{_≡_};
 ghost use Prim.Native.Nat.{_≤_};
 ghost use lib.ListN.{length};
 ghost use Rattle.schedule.specs.Report.{replayLength, replayOutput};
-ghost use Rattle.replay.specs.Play.{wholePlay};
+ghost use Rattle.replay.specs.State.{wholeState};
 
 // Room for any report.
 pub const REPORT_ROOM: usize = (MOST_BASES + 1) * LINE_ROOM;
 
 // A schedule, read to its end or to the first line that is turned down.
-fn play_whole(schedule: &[u8]) -> Play
-    ensures { λ r. ⌜ r ≡ wholePlay (now (schedule .entry)) ⌝ }
+fn read_whole(schedule: &[u8]) -> ReplayState
+    ensures { λ r. ⌜ r ≡ wholeState (now (schedule .entry)) ⌝ }
 {
     if LONGEST_SCHEDULE < schedule.len() {
         return refuse(unread(), 13);
     }
-    play_history(schedule, play_header(schedule))
+    read_history(schedule, read_header(schedule))
 }
 
 // The report of a schedule at the front of an output, and its length. An output with less room than any report may take is left
@@ -42,5 +42,5 @@ pub fn replay(schedule: &[u8], out: &mut [u8]) -> usize
     if out.len() < REPORT_ROOM {
         return 0;
     }
-    put_report(play_whole(schedule), out)
+    put_report(read_whole(schedule), out)
 }

@@ -1,4 +1,4 @@
 pub mod Header
-pub mod Story
+pub mod Meaning
 pub mod Report
 pub mod Theorem

@@ -13,7 +13,7 @@ use Rattle.protocol.specs.declared.Base.{Base}
 use Rattle.protocol.specs.Record.{finalList}
 use Rattle.protocol.specs.Steps.{leaderOf}
 use Rattle.protocol.specs.Net.{Net, waiting}
-use Rattle.schedule.specs.Story.{Story, meaning}
+use Rattle.schedule.specs.Meaning.{Progress, meaning}
 
 -- ---- words
 -- `base `
@@ -91,7 +91,7 @@ waitingLine count = (waitingText ++ decimalText count) ++ feed
 unfoldable pub refusedLine : ℕ → ℕ → List ℕ
 refusedLine number line = (((refusedText ++ decimalText number) ++ lineText) ++ decimalText line) ++ feed
 
-unfoldable pub reportOf : Story → List ℕ
+unfoldable pub reportOf : Progress → List ℕ
 reportOf st =
     choose (eqb (st .refusal) 0)
     (baseLines (st .n) (st .net) ++ waitingLine (waiting (st .n) (st .faulty) (st .net)))

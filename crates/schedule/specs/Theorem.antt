@@ -13,7 +13,7 @@ use Rattle.print.specs.Decimal.{decimalText}
 use Rattle.lines.specs.Lines.{lineFeed}
 use Rattle.protocol.specs.Agreement.{BaseOf, trueIdentifiers}
 use Rattle.protocol.specs.Steps.{leaderOf}
-use Rattle.schedule.specs.Story.{header}
+use Rattle.schedule.specs.Meaning.{header}
 use Rattle.schedule.specs.Report.{
   baseText,
   idleText,

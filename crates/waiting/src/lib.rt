@@ -1,7 +1,7 @@
 // What waits: broadcasts and bases at the other end of a good link to which they were not carried.
 use limits::MOST_BASES;
 use net::Faulty;
-use net::Net;
+use net::StoredNet;
 use net::links::is_good;
 use node::Node;
 use node::log::broadcasts;
@@ -13,7 +13,7 @@ ghost use Rattle.counting.specs.Sums.{sum};
 ghost use Rattle.node.specs.Node.{mostBroadcasts};
 ghost use Rattle.protocol.specs.Net.{waitingFrom};
 ghost use Rattle.protocol.specs.Net as Nets;
-ghost use Rattle.net.specs.Shown.{pairsOf, faultyOf, shown, size};
+ghost use Rattle.net.specs.Abstraction.{pairsOf, faultyOf, netOf, size};
 ghost use Rattle.waiting.specs.Waits.{waitingBetween};
 
 // Broadcasts of a that wait to be carried to b.
@@ -41,10 +41,10 @@ fn size_of(n: u8) -> usize
 }
 
 // Broadcasts of the base at place a that wait.
-fn waiting_from(net: Net, a: usize) -> usize
+fn waiting_from(net: StoredNet, a: usize) -> usize
     requires { ⌜ a < mostBases ⌝ }
     ensures { λ r.
-        ⌜ (r ≡ sum (size net) (λ b. waitingFrom (faultyOf net) (shown net) (suc a) (suc b))) × (r ≤ mostBases * mostBroadcasts) ⌝ }
+        ⌜ (r ≡ sum (size net) (λ b. waitingFrom (faultyOf net) (netOf net) (suc a) (suc b))) × (r ≤ mostBases * mostBroadcasts) ⌝ }
 {
     let n = size_of(net.n);
     let sender = net.nodes[a];
@@ -60,8 +60,8 @@ fn waiting_from(net: Net, a: usize) -> usize
 }
 
 // How many pairs of a broadcast and a base wait.
-pub fn waiting(net: Net) -> usize
-    ensures { λ r. ⌜ r ≡ Nets.waiting (size net) (faultyOf net) (shown net) ⌝ }
+pub fn waiting(net: StoredNet) -> usize
+    ensures { λ r. ⌜ r ≡ Nets.waiting (size net) (faultyOf net) (netOf net) ⌝ }
 {
     let n = size_of(net.n);
     let mut total: usize = 0;

@@ -44,8 +44,8 @@ use Rattle.node_calls.specs.Calls.{told}
 use Rattle.node_calls.specs.Calls.Laws.{after-unchanged}
 use Rattle.node.specs.Node as Nodes
 use Rattle.node.specs.Node.Log.{frame-written}
-use Rattle.net.specs.declared.Net.{Net}
-use Rattle.net.specs.Shown.{noNode, emptyNode, nodeAt, withNode, shown, faultyOf}
+use Rattle.net.specs.declared.StoredNet.{StoredNet}
+use Rattle.net.specs.Abstraction.{noNode, emptyNode, nodeAt, withNode, netOf, faultyOf}
 use Rattle.events.specs.declared.Reached.{Reached}
 use Rattle.events.specs.Events.{marks, after, carryRefusal, carryCall, carriedTo, forgedTo}
 
@@ -154,7 +154,7 @@ set-self [] i d = refl
 set-self (x ∷ l) zero d = refl
 set-self (x ∷ l) (suc i) d = ap (λ (k : List _). x ∷ k) (set-self l i d)
 
-stored-self : (w : Net) (b : ℕ) → withNode w b (nodeAt w b) ≡ w
+stored-self : (w : StoredNet) (b : ℕ) → withNode w b (nodeAt w b) ≡ w
 unfolding withNode nodeAt
 stored-self w b = go (inRange b mostBases)
   where
@@ -169,13 +169,13 @@ stored-self w b = go (inRange b mostBases)
     go false = unfold choose in refl
 
 -- the base that an event reaches, as the event leaves it
-unfoldable pub reachedNode : Net → Event → Node
+unfoldable pub reachedNode : StoredNet → Event → Node
 reachedNode w e =
-    choose (eqb (refusal (faultyOf w) (shown w) e) 0) (marks e (Nodes.nodeAfter (nodeAt w (at e)) (call (shown w) e))) (nodeAt w (at e))
+    choose (eqb (refusal (faultyOf w) (netOf w) e) 0) (marks e (Nodes.nodeAfter (nodeAt w (at e)) (call (netOf w) e))) (nodeAt w (at e))
 
-pub reached-stored : (w : Net) (e : Event) → withNode w (at e) (reachedNode w e) ≡ after w e
+pub reached-stored : (w : StoredNet) (e : Event) → withNode w (at e) (reachedNode w e) ≡ after w e
 unfolding reachedNode after
-reached-stored w e = go (eqb (refusal (faultyOf w) (shown w) e) 0) (marks e (Nodes.nodeAfter (nodeAt w (at e)) (call (shown w) e)))
+reached-stored w e = go (eqb (refusal (faultyOf w) (netOf w) e) 0) (marks e (Nodes.nodeAfter (nodeAt w (at e)) (call (netOf w) e)))
   where
     go : (t : Bool) (x : Node) → withNode w (at e) (choose t x (nodeAt w (at e))) ≡ choose t (withNode w (at e) x) w
     go true x = unfold choose in refl
@@ -188,19 +188,19 @@ unless-down {n} {x} {u} f = go (eqb n 0) refl
     go true e = unfold choose in refl
     go false e = unfold choose in f (eqb-false n 0 e)
 
-pub start-reaches : (w : Net) (b : ℕ)
+pub start-reaches : (w : StoredNet) (b : ℕ)
     → Nodes.nodeAfter (nodeAt w b) (start (nodeAt w b .base) outputRoom) ≡ reachedNode w (starts b outputRoom)
-unfolding reachedNode refusal eventRefusal at call marks shown first choose
+unfolding reachedNode refusal eventRefusal at call marks netOf first choose
 start-reaches w b = unless-down (start-down (nodeAt w b))
 
-pub carry-reaches : (w : Net) (a b k : ℕ) → carriedTo (nodeAt w a) (nodeAt w b) (faultyOf w) a b k
-    ≡ record { refusal = eventRefusal (faultyOf w) (shown w) (carry a b k outputRoom); node = reachedNode w (carry a b k outputRoom) }
-unfolding reachedNode refusal eventRefusal at call marks shown carriedTo carryRefusal carryCall broadcast
+pub carry-reaches : (w : StoredNet) (a b k : ℕ) → carriedTo (nodeAt w a) (nodeAt w b) (faultyOf w) a b k
+    ≡ record { refusal = eventRefusal (faultyOf w) (netOf w) (carry a b k outputRoom); node = reachedNode w (carry a b k outputRoom) }
+unfolding reachedNode refusal eventRefusal at call marks netOf carriedTo carryRefusal carryCall broadcast
 carry-reaches w a b k = refl
 
-pub forge-reaches : (w : Net) (a b : ℕ) (bytes : List ℕ) → forgedTo (nodeAt w b) (faultyOf w) a b bytes ≡ record
-    { refusal = eventRefusal (faultyOf w) (shown w) (forge a b bytes outputRoom); node = reachedNode w (forge a b bytes outputRoom) }
-unfolding reachedNode refusal eventRefusal at call marks shown forgedTo
+pub forge-reaches : (w : StoredNet) (a b : ℕ) (bytes : List ℕ) → forgedTo (nodeAt w b) (faultyOf w) a b bytes ≡ record
+    { refusal = eventRefusal (faultyOf w) (netOf w) (forge a b bytes outputRoom); node = reachedNode w (forge a b bytes outputRoom) }
+unfolding reachedNode refusal eventRefusal at call marks netOf forgedTo
 forge-reaches w a b bytes = go (good (faultyOf w) a b)
   where
     u : Node

@@ -8,14 +8,16 @@ use borrow.Author.Tests.{eq-eqb, ne-eqb, le-leb, lt-leb}
 use lib.Dec.{eqb}
 use lib.ListN.{length}
 use Rattle.limits.specs.Limits.{mostBases}
+use Rattle.limits.specs.Refusals.{ownRefusal}
+use Rattle.limits.specs.Refusals.Laws.{own-passes}
 use Rattle.lists.specs.Choice.{or}
-use Rattle.lists.specs.Choice.Laws.{choose-ind, chosen-yes, chosen-no, or-first}
+use Rattle.lists.specs.Choice.Laws.{choose-ind, choose-yes, choose-no, chosen-yes, chosen-no, or-first, first-none, first-given}
 use Rattle.protocol.specs.declared.Base.{Base}
 use Rattle.protocol.specs.Sound.{settingRefusal, idleBase}
 use Rattle.protocol.specs.Net as Nets
 use Rattle.soundness.specs.declared.idle.Made.{Made}
 use Rattle.soundness.specs.Made.{madeOf}
-use Rattle.net.specs.Header.{owned, idRefusal, faultyRefusal}
+use Rattle.schedule.specs.Header.{owned, idRefusal, faultyRefusal}
 
 -- the record that a call which is turned down answers is idle too
 made-idle : madeOf 0 0 0 .base ≡ idleBase 0 0 0
@@ -76,12 +78,19 @@ module _ (W : Nets.Net) (v : ℕ) where
 
   pub no-identifier : v ≡ 0 → 3 ≡ idRefusal W v
   unfolding idRefusal
-  no-identifier e = chosen-yes _ (eq-eqb v 0 e) refl
+  no-identifier e = let own = three e in sym (first-given _ (λ z. omega arith) ∙ own)
+    where
+      three : v ≡ 0 → ownRefusal v ≡ 3
+      three e = unfold ownRefusal in choose-yes 3 0 (eq-eqb v 0 e)
+
+  -- an identifier above zero
+  some : (v ≡ 0 → ⊥) → ownRefusal v ≡ 0
+  some n = own-passes (omega arith)
 
   pub two-owners : (v ≡ 0 → ⊥) → {r : Bool} → r ≡ owned mostBases W v → r ≡ true → 14 ≡ idRefusal W v
   unfolding idRefusal
-  two-owners n e y = chosen-no _ (ne-eqb v 0 n) (chosen-yes _ (sym e ∙ y) refl)
+  two-owners n e y = sym (first-none _ (some n) ∙ choose-yes 14 0 (sym e ∙ y))
 
   pub one-owner : (v ≡ 0 → ⊥) → {r : Bool} → r ≡ owned mostBases W v → r ≡ false → 0 ≡ idRefusal W v
   unfolding idRefusal
-  one-owner n e y = chosen-no _ (ne-eqb v 0 n) (chosen-no _ (sym e ∙ y) refl)
+  one-owner n e y = sym (first-none _ (some n) ∙ choose-no 14 0 (sym e ∙ y))

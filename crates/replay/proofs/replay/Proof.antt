@@ -10,9 +10,9 @@ use Rattle.lists.specs.Choice.Laws.{chosen-yes, chosen-no}
 use Rattle.frame.specs.Encoding.{over}
 use Rattle.print.specs.Put.Laws.{put-as, put-front}
 use Rattle.schedule.specs.Report.{replayLength, replayOutput}
-use Rattle.replay.specs.declared.play.Play.{Play}
-use Rattle.replay.specs.Play.{reportPlay}
-use Rattle.replay.specs.Follows.{play-few, report-is}
+use Rattle.replay.specs.declared.state.ReplayState.{ReplayState}
+use Rattle.replay.specs.State.{reportState}
+use Rattle.replay.specs.Follows.{state-few, report-is}
 use Rattle.replay.proofs.replay.Statement.{statement}
 use Rattle.replay.proofs.replay.Tie as tie
 
@@ -20,13 +20,13 @@ returns : tie.Need-returns
 unfolding replayLength replayOutput
 returns c = let e = lt-ltb _ _ (c .if1 .taken) in (chosen-yes _ e refl, (chosen-yes _ e refl, omega arith))
 
-play-whole-requires : tie.Need-play-whole-requires
-play-whole-requires c κs = search needs
+read-whole-requires : tie.Need-read-whole-requires
+read-whole-requires c κs = search needs
 
 put-report-requires : tie.Need-put-report-requires
 put-report-requires c κs = let s = now (c .before .before .before .before .before .args .schedule) in (
   omega (arith, c .before .before .if1 .left),
-  subst (λ (p : Play). p .refusal ≡ 0 → p .net .n ≤ mostBases) (sym (c .before .play-whole .ensures)) (play-few s),
+  subst (λ (p : ReplayState). p .refusal ≡ 0 → p .net .n ≤ mostBases) (sym (c .before .read-whole .ensures)) (state-few s),
 )
 
 same-length : tie.Need-same-length
@@ -35,7 +35,7 @@ same-length c = search needs
 returns-2 : tie.Need-returns-2
 unfolding replayLength replayOutput over
 returns-2 c = let s = now (c .before .before .before .before .before .before .before .before .args .schedule) in
-    let P = put-as (ap reportPlay (c .before .before .before .before .play-whole .ensures) ∙ report-is s)
+    let P = put-as (ap reportState (c .before .before .before .before .read-whole .ensures) ∙ report-is s)
     (c .before .before .put-report .ensures .0) in
     let e = le-ltb _ _ (c .before .before .before .before .before .if1 .left) in
     let most = c .before .before .put-report .ensures .1 in
@@ -47,7 +47,7 @@ replay-spec =
     tie.close
     (tie.spec
     returns
-    play-whole-requires
+    read-whole-requires
     put-report-requires
     same-length
     returns-2)

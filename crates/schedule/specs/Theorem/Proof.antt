@@ -14,7 +14,7 @@ use Rattle.lists.specs.Choice.Laws.{choose-ind, choose-yes, choose-no}
 use Rattle.print.specs.Decimal.{mostDigits, lastDigits, decimalText}
 use Rattle.protocol.specs.Net.{Net, waiting}
 use Rattle.protocol.specs.Agreement.{BaseOf}
-use Rattle.schedule.specs.Story.{header, meaning}
+use Rattle.schedule.specs.Meaning.{header, meaning}
 use Rattle.schedule.specs.Report.{
   baseText,
   idleText,

@@ -15,9 +15,9 @@ use Rattle.protocol.specs.Record.{finalList}
 use Rattle.protocol.specs.Steps.{leaderOf}
 use Rattle.protocol.specs.Net.{Net, Pair, run, waiting}
 use Rattle.protocol.specs.Agreement.{BaseOf, trueIdentifiers}
-use Rattle.schedule.specs.Story.{Story, wholeStory, header, meaning}
-use Rattle.schedule.specs.Story.Begins.{Whole, header-begins, begins-setting, begins-fresh}
-use Rattle.schedule.specs.Story.Tells.{Tells, story-tells, header-unrefused, meaning-whole}
+use Rattle.schedule.specs.Meaning.{Progress, wholeSchedule, header, meaning}
+use Rattle.schedule.specs.Meaning.Begins.{Whole, header-begins, begins-setting, begins-fresh}
+use Rattle.schedule.specs.Meaning.Continues.{Continues, whole-continues, header-unrefused, meaning-whole}
 use Rattle.schedule.specs.Report.{idleText, runningText, primeText, secondaryText, listText, leaderText, finalText, stateText}
 use Rattle.schedule.specs.Theorem.{givenIds, rosterText}
 use Rattle.schedule.specs.Theorem.Histories.{state-most, final-by, leader-by, ends-by}
@@ -61,12 +61,12 @@ text-agrees b ids roster =
     let r = roster (omega (arith, eqb-false (b .state) 0 e, eqb-false (b .state) 1 f)) in
     choose-same (eqb (b .state) 2) (λ _. ap (λ (l : List ℕ). primeText ++ l) r) (λ _. ap (λ (l : List ℕ). secondaryText ++ l) r)))
 
--- ---- a story that goes on from a whole header
-module _ (begin : Story) (B : Whole begin) (st : Story) (T : Tells begin st) where
+-- ---- lines that go on from a whole header
+module _ (begin : Progress) (B : Whole begin) (st : Progress) (T : Continues begin st) where
   abbrev ids : List ℕ
   ids = trueIdentifiers (begin .n) (begin .net)
 
-  -- what holds of the history's net holds of the story's
+  -- what holds of the history's net holds of the schedule's
   of-net : (P : Net → Type 0) → P (run (begin .faulty) (begin .net) (T .events)) → P (st .net)
   of-net P = subst P (T .net)
 
@@ -99,8 +99,8 @@ module _ (begin : Story) (B : Whole begin) (st : Story) (T : Tells begin st) whe
       (λ a A. all a (subst (λ (k : ℕ). BaseOf k a) (sym (T .n)) A))
 
 -- ---- the whole schedule
--- what is said of a story s that is read to its end
-abbrev Says : List ℕ → Story → Type 0
+-- what is said of a schedule s that is read to its end
+abbrev Says : List ℕ → Progress → Type 0
 Says s st =
     (st .n ≡ header s .n)
     × (((b : ℕ) → BaseOf (st .n) b → stateText (st .net .base b) ≡ agreedText (st .net .base b .state) (givenIds s))
@@ -108,15 +108,20 @@ Says s st =
     × (waiting (st .n) (st .faulty) (st .net) ≡ 0
     → ((b : ℕ) → BaseOf (st .n) b → 1 ≤ st .net .base b .state) → (b : ℕ) → BaseOf (st .n) b → 2 ≤ st .net .base b .state)))
 
-whole-says : (s : List ℕ) → wholeStory s .refusal ≡ 0 → Says s (wholeStory s)
+whole-says : (s : List ℕ) → wholeSchedule s .refusal ≡ 0 → Says s (wholeSchedule s)
 unfolding givenIds
 whole-says s e =
     let B = header-begins s (header-unrefused s e) in
-    let T = story-tells s e in
-    (T .n, (told-text (header s) B (wholeStory s) T, (told-states (header s) B (wholeStory s) T, told-ends (header s) B (wholeStory s) T)))
+    let T = whole-continues s e in (
+      T .n,
+      (
+        told-text (header s) B (wholeSchedule s) T,
+        (told-states (header s) B (wholeSchedule s) T, told-ends (header s) B (wholeSchedule s) T),
+      ),
+    )
 
 pub states-agree : (s : List ℕ) → meaning s .refusal ≡ 0 → StatesAgree s
 states-agree s e =
     let m = meaning-whole s e in
-    let f = subst (Says s) (sym m) (whole-says s (ap (λ (x : Story). x .refusal) (sym m) ∙ e)) in
+    let f = subst (Says s) (sym m) (whole-says s (ap (λ (x : Progress). x .refusal) (sym m) ∙ e)) in
     record { bases = f .0; text = f .1 .0; states = f .1 .1 .0; ends = f .1 .1 .1 }

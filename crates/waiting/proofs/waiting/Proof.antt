@@ -8,14 +8,14 @@ use Rattle.counting.specs.Sums.{sum}
 use Rattle.protocol.specs.Net.{waitingFrom}
 use Rattle.protocol.specs.Net as Nets
 use Rattle.node.specs.Node.{mostBroadcasts}
-use Rattle.net.specs.Shown.{shown, faultyOf, size}
+use Rattle.net.specs.Abstraction.{netOf, faultyOf, size}
 use Rattle.waiting.specs.Waits.Laws.{base-turn}
 use Rattle.waiting.proofs.waiting.Statement.{statement}
 use Rattle.waiting.proofs.waiting.Tie as tie
 
 abbrev Inv-loop : tie.InvT-loop
 Inv-loop net n total₀ a₀ total a = (a ≤ n) × (n ≡ size net) × (n ≤ mostBases) × (total ≤ a * (mostBases * mostBroadcasts))
-    × (total ≡ sum a (λ i. sum (size net) (λ j. waitingFrom (faultyOf net) (shown net) (suc i) (suc j))))
+    × (total ≡ sum a (λ i. sum (size net) (λ j. waitingFrom (faultyOf net) (netOf net) (suc i) (suc j))))
 
 abbrev μ-loop : tie.MeasureT-loop
 μ-loop net n total₀ a₀ total a = n - a

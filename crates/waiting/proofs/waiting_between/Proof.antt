@@ -1,7 +1,7 @@
 -- `waiting::waiting_between` meets its contract: nothing for the base itself and on a faulty link.
 use native.Mathlib.Omega.{arith}
 use borrow.Author.Tests.{not-true, not-false}
-use Rattle.waiting.specs.Waits.Laws.{own-broadcasts, on-a-faulty-link, on-a-good-link, total-most}
+use Rattle.waiting.specs.Waits.Laws.{own-broadcasts, faulty-waits-none, on-a-good-link, total-most}
 use borrow.Author.Needs.{needs}
 use Rattle.waiting.proofs.waiting_between.Statement.{statement}
 use Rattle.waiting.proofs.waiting_between.Tie as tie
@@ -13,7 +13,7 @@ is-good-requires : tie.Need-is-good-requires
 is-good-requires c κs = search needs
 
 returns-2 : tie.Need-returns-2
-returns-2 c = (on-a-faulty-link _ _ _ _ _ (c .before .is-good .ensures) (not-true _ (c .if2 .taken)), omega arith)
+returns-2 c = (faulty-waits-none _ _ _ _ _ (c .before .is-good .ensures) (not-true _ (c .if2 .taken)), omega arith)
 
 broadcasts-requires : tie.Need-broadcasts-requires
 broadcasts-requires c κs = search needs

@@ -7,14 +7,14 @@ use Rattle.limits.specs.Limits.{mostBases}
 use Rattle.counting.specs.Sums.{sum}
 use Rattle.protocol.specs.Net.{waitingFrom}
 use Rattle.node.specs.Node.{mostBroadcasts}
-use Rattle.net.specs.Shown.{shown, faultyOf, size}
+use Rattle.net.specs.Abstraction.{netOf, faultyOf, size}
 use Rattle.waiting.specs.Waits.Laws.{pair-turn}
 use Rattle.waiting.proofs.waiting_from.Statement.{statement}
 use Rattle.waiting.proofs.waiting_from.Tie as tie
 
 abbrev Inv-loop : tie.InvT-loop
 Inv-loop a net n sender faulty total₀ b₀ total b = (b ≤ n) × (n ≡ size net)
-    × (n ≤ mostBases) × (total ≤ b * mostBroadcasts) × (total ≡ sum b (λ j. waitingFrom (faultyOf net) (shown net) (suc a) (suc j)))
+    × (n ≤ mostBases) × (total ≤ b * mostBroadcasts) × (total ≡ sum b (λ j. waitingFrom (faultyOf net) (netOf net) (suc a) (suc j)))
 
 abbrev μ-loop : tie.MeasureT-loop
 μ-loop a net n sender faulty total₀ b₀ total b = n - b

@@ -19,8 +19,8 @@ use Rattle.protocol.specs.Net.{Pair, good, waitingFrom}
 use Rattle.node.specs.declared.Node.{Node}
 use Rattle.node.specs.Node.{mostBroadcasts, logOf, heardBy}
 use Rattle.node.specs.Node.Within.{is-within}
-use Rattle.net.specs.declared.Net.{Net}
-use Rattle.net.specs.Shown.{noNode, nodeAt, shown, faultyOf}
+use Rattle.net.specs.declared.StoredNet.{StoredNet}
+use Rattle.net.specs.Abstraction.{noNode, nodeAt, netOf, faultyOf}
 use Rattle.waiting.specs.Waits.{waitingBetween}
 
 -- ---- between two bases
@@ -32,9 +32,9 @@ module _ (v u : Node) (faulty : List Pair) (a b : ℕ) where
   unfolding waitingBetween
   own-broadcasts e = chosen-yes _ (or-first _ (eq-eqb a b e)) refl
 
-  pub on-a-faulty-link : {g : Bool} → g ≡ good faulty a b → g ≡ false → 0 ≡ waitingBetween v u faulty a b
+  pub faulty-waits-none : {g : Bool} → g ≡ good faulty a b → g ≡ false → 0 ≡ waitingBetween v u faulty a b
   unfolding waitingBetween
-  on-a-faulty-link eg f = chosen-yes _ (or-second (eqb a b) (ap not (sym eg ∙ f))) refl
+  faulty-waits-none eg f = chosen-yes _ (or-second (eqb a b) (ap not (sym eg ∙ f))) refl
 
   pub on-a-good-link : {k r : ℕ} → k ≡ length (logOf v) → r ≡ sum k (λ i. bit (not (heardBy u a (suc i))))
       → a ≢ b → {g : Bool} → g ≡ good faulty a b → g ≡ true → r ≡ waitingBetween v u faulty a b
@@ -45,7 +45,7 @@ pub total-most : (u : Node) (a : ℕ) {k r : ℕ} → r ≡ sum k (λ i. bit (no
 total-most u a {k} e h = omega (arith, bits-most k (λ i. not (heardBy u a (suc i))))
 
 -- ---- from one base, and from all
-node-there : (w : Net) (i : ℕ) → i < mostBases → nodeAt w (suc i) ≡ getD (w .nodes) i noNode
+node-there : (w : StoredNet) (i : ℕ) → i < mostBases → nodeAt w (suc i) ≡ getD (w .nodes) i noNode
 unfolding nodeAt
 node-there w i h = choose-yes _ _ (is-within {x = suc i} {most = mostBases} (omega arith) (omega arith))
     ∙ ap (λ (k : ℕ). getD (w .nodes) k noNode) less
@@ -53,17 +53,18 @@ node-there w i h = choose-yes _ _ (is-within {x = suc i} {most = mostBases} (ome
     less : suc i - 1 ≡ i
     less = omega arith
 
-pub pair-turn : (w : Net) (a b total : ℕ) {r : ℕ}
-    → a < mostBases → b < mostBases → total ≡ sum b (λ j. waitingFrom (faultyOf w) (shown w) (suc a) (suc j))
+pub pair-turn : (w : StoredNet) (a b total : ℕ) {r : ℕ}
+    → a < mostBases → b < mostBases → total ≡ sum b (λ j. waitingFrom (faultyOf w) (netOf w) (suc a) (suc j))
     → r ≡ waitingBetween (getD (w .nodes) a noNode) (getD (w .nodes) b noNode) (faultyOf w) (a + 1) (b + 1)
-    → total + r ≡ sum (b + 1) (λ j. waitingFrom (faultyOf w) (shown w) (suc a) (suc j))
-pair-turn w a b total {r} ha hb e er = sum-turn (λ j. waitingFrom (faultyOf w) (shown w) (suc a) (suc j)) b total r e (er ∙ same)
+    → total + r ≡ sum (b + 1) (λ j. waitingFrom (faultyOf w) (netOf w) (suc a) (suc j))
+pair-turn w a b total {r} ha hb e er = sum-turn (λ j. waitingFrom (faultyOf w) (netOf w) (suc a) (suc j)) b total r e (er ∙ same)
   where
     same : waitingBetween (getD (w .nodes) a noNode) (getD (w .nodes) b noNode) (faultyOf w) (a + 1) (b + 1)
-        ≡ waitingFrom (faultyOf w) (shown w) (suc a) (suc b)
-    same = unfold waitingBetween waitingFrom shown in rw (add-one a, add-one b, sym (node-there w a ha), sym (node-there w b hb))
+        ≡ waitingFrom (faultyOf w) (netOf w) (suc a) (suc b)
+    same = unfold waitingBetween waitingFrom netOf in rw (add-one a, add-one b, sym (node-there w a ha), sym (node-there w b hb))
 
-pub base-turn : (w : Net) (n a total : ℕ) {r : ℕ} → total ≡ sum a (λ i. sum n (λ j. waitingFrom (faultyOf w) (shown w) (suc i) (suc j)))
-    → r ≡ sum n (λ j. waitingFrom (faultyOf w) (shown w) (suc a) (suc j))
-    → total + r ≡ sum (a + 1) (λ i. sum n (λ j. waitingFrom (faultyOf w) (shown w) (suc i) (suc j)))
-base-turn w n a total {r} e er = sum-turn (λ i. sum n (λ j. waitingFrom (faultyOf w) (shown w) (suc i) (suc j))) a total r e er
+pub base-turn : (w : StoredNet) (n a total : ℕ) {r : ℕ}
+    → total ≡ sum a (λ i. sum n (λ j. waitingFrom (faultyOf w) (netOf w) (suc i) (suc j)))
+    → r ≡ sum n (λ j. waitingFrom (faultyOf w) (netOf w) (suc a) (suc j))
+    → total + r ≡ sum (a + 1) (λ i. sum n (λ j. waitingFrom (faultyOf w) (netOf w) (suc i) (suc j)))
+base-turn w n a total {r} e er = sum-turn (λ i. sum n (λ j. waitingFrom (faultyOf w) (netOf w) (suc i) (suc j))) a total r e er

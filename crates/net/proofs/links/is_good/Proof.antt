@@ -5,8 +5,8 @@ use native.Mathlib.Omega.{arith}
 use borrow.Author.Needs.{needs}
 use lib.ListN.{length, drop}
 use Rattle.protocol.specs.Net.{good}
-use Rattle.net.specs.Shown.{pairsOf, faultyRoom}
-use Rattle.net.specs.Shown.Pairs.{joined-there, good-broken, good-next, good-end}
+use Rattle.net.specs.Abstraction.{pairsOf, faultyRoom}
+use Rattle.net.specs.Abstraction.Pairs.{joined-there, good-broken, good-next, good-end}
 use Rattle.net.proofs.links.is_good.Statement.{statement}
 use Rattle.net.proofs.links.is_good.Tie as tie
 

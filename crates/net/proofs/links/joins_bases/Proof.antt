@@ -3,7 +3,7 @@ use mathlib.Core.Path.{sym, _∙_}
 use Rattle.lists.specs.Choice.Laws.{or-first}
 use Rattle.lists.specs.Choice.{or}
 use Rattle.protocol.specs.Net.{joins}
-use Rattle.net.specs.Shown.{pairOf}
+use Rattle.net.specs.Abstraction.{pairOf}
 use borrow.Author.Needs.{needs}
 use Rattle.net.proofs.links.joins_bases.Statement.{statement}
 use Rattle.net.proofs.links.joins_bases.Tie as tie

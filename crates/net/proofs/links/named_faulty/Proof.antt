@@ -1,6 +1,6 @@
 -- `net::links::named_faulty` meets its contract: as many as are counted, and no more than there is room for.
 use Rattle.net.proofs.Sizes.{faulty-sized}
-use Rattle.net.specs.Shown.Pairs.{pairs-full, pairs-part}
+use Rattle.net.specs.Abstraction.Pairs.{pairs-full, pairs-part}
 use native.Mathlib.Omega.{arith}
 use mathlib.Core.Path.{sym, _∙_}
 use Rattle.net.proofs.links.named_faulty.Statement.{statement}

@@ -2,13 +2,13 @@
 use mathlib.Core.Path.{refl}
 use borrow.Author.Tests.{lt-ltb, le-ltb}
 use Rattle.lists.specs.Choice.Laws.{chosen-yes, chosen-no}
-use Rattle.net.specs.Header.{withFaulty}
+use Rattle.net.specs.Header.{markedNet}
 use borrow.Author.Needs.{needs}
 use Rattle.net.proofs.links.with_faulty.Statement.{statement}
 use Rattle.net.proofs.links.with_faulty.Tie as tie
 
 returns : tie.Need-returns
-unfolding withFaulty
+unfolding markedNet
 returns c = chosen-no _ (le-ltb _ _ (c .if1 .taken)) refl
 
 mul-pair : tie.Need-mul-pair
@@ -21,7 +21,7 @@ add-faulty : tie.Need-add-faulty
 add-faulty c = search needs
 
 returns-2 : tie.Need-returns-2
-unfolding withFaulty
+unfolding markedNet
 returns-2 c = chosen-yes _ (lt-ltb _ _ (c .if1 .left)) refl
 
 pub with-faulty-spec : {M : Type 1} → statement M

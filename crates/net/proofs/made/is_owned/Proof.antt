@@ -5,14 +5,14 @@ use mathlib.Core.Path.{_≡_, refl, sym, ap, _∙_}
 use native.Mathlib.Omega.{arith}
 use borrow.Author.Needs.{needs}
 use Rattle.limits.specs.Limits.{mostBases}
-use Rattle.net.specs.Shown.{shown}
-use Rattle.net.specs.Header.{owned}
+use Rattle.net.specs.Abstraction.{netOf}
+use Rattle.schedule.specs.Header.{owned}
 use Rattle.net.specs.Header.Laws.{owned-here, owned-below, owned-none}
 use Rattle.net.proofs.made.is_owned.Statement.{statement}
 use Rattle.net.proofs.made.is_owned.Tie as tie
 
 abbrev Inv-loop : tie.InvT-loop
-Inv-loop net v b₀ b = (b ≤ mostBases) × (owned mostBases (shown net) v ≡ owned b (shown net) v)
+Inv-loop net v b₀ b = (b ≤ mostBases) × (owned mostBases (netOf net) v ≡ owned b (netOf net) v)
 
 abbrev μ-loop : tie.MeasureT-loop
 μ-loop net v b₀ b = b

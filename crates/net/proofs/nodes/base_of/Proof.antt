@@ -1,7 +1,7 @@
 -- `net::nodes::base_of` meets its contract: the record of the node.
 use mathlib.Core.Path.{ap}
 use Rattle.node.specs.declared.Node.{Node}
-use Rattle.net.specs.Shown.{shown}
+use Rattle.net.specs.Abstraction.{netOf}
 use borrow.Author.Needs.{needs}
 use Rattle.net.proofs.nodes.base_of.Statement.{statement}
 use Rattle.net.proofs.nodes.base_of.Tie as tie
@@ -10,7 +10,7 @@ node-at-requires : tie.Need-node-at-requires
 node-at-requires c κs = search needs
 
 returns : tie.Need-returns
-unfolding shown
+unfolding netOf
 returns c = ap (λ (v : Node). v .base) (c .before .node-at .ensures)
 
 pub base-of-spec : {M : Type 1} → statement M

@@ -1,5 +1,5 @@
 -- `net::nodes::empty_node` meets its contract: each array is filled.
-use Rattle.net.specs.Shown.{emptyNode}
+use Rattle.net.specs.Abstraction.{emptyNode}
 use borrow.Author.Needs.{needs}
 use Rattle.net.proofs.nodes.empty_node.Statement.{statement}
 use Rattle.net.proofs.nodes.empty_node.Tie as tie

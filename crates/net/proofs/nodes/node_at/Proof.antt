@@ -2,7 +2,7 @@
 use mathlib.Core.Path.{refl}
 use Rattle.lists.specs.Choice.Laws.{chosen-yes, chosen-no}
 use Rattle.node.specs.Node.Within.{is-within, below-one, above-most}
-use Rattle.net.specs.Shown.{nodeAt}
+use Rattle.net.specs.Abstraction.{nodeAt}
 use borrow.Author.Needs.{needs}
 use Rattle.net.proofs.nodes.node_at.Statement.{statement}
 use Rattle.net.proofs.nodes.node_at.Tie as tie

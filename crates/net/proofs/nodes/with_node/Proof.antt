@@ -2,7 +2,7 @@
 use mathlib.Core.Path.{refl}
 use Rattle.lists.specs.Choice.Laws.{chosen-yes, chosen-no}
 use Rattle.node.specs.Node.Within.{is-within, below-one, above-most}
-use Rattle.net.specs.Shown.{withNode}
+use Rattle.net.specs.Abstraction.{withNode}
 use borrow.Author.Needs.{needs}
 use Rattle.net.proofs.nodes.with_node.Statement.{statement}
 use Rattle.net.proofs.nodes.with_node.Tie as tie

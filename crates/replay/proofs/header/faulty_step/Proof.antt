@@ -6,25 +6,25 @@ use Rattle.lines.specs.Lines.Laws.{net-base-range}
 use Rattle.lines.specs.Lines.Told.{FaultyTold, faulty-told}
 use Rattle.lines.specs.declared.bases.Two.the-variants.{Both}
 use denote.Ref.{now}
-use Rattle.replay.specs.Play.{faultyPlay}
-use Rattle.replay.specs.Play.Laws.{unless-refused, unless-onward}
+use Rattle.replay.specs.State.{faultyState}
+use Rattle.replay.specs.State.Laws.{unless-stopped, unless-onward}
 use Rattle.replay.proofs.header.faulty_step.Statement.{statement}
 use Rattle.replay.proofs.header.faulty_step.Tie as tie
 
 -- the line has its form, so the two are bases of the net
-told : (c : tie.After-known-told) → FaultyTold (c .before .before .before .before .before .before .before .before .args .play .net .n)
-    (c .before .before .before .before .before .before .before .before .args .play .at)
+told : (c : tie.After-known-told) → FaultyTold (c .before .before .before .before .before .before .before .before .args .state .net .n)
+    (c .before .before .before .before .before .before .before .before .args .state .at)
     (Both (c .before .a .given .0 .0) (c .before .a .given .0 .1 .0) (c .before .a .given .0 .1 .1 .0))
-told c = subst (FaultyTold (c .before .before .before .before .before .before .before .before .args .play .net .n)
-    (c .before .before .before .before .before .before .before .before .args .play .at))
+told c = subst (FaultyTold (c .before .before .before .before .before .before .before .before .args .state .net .n)
+    (c .before .before .before .before .before .before .before .before .args .state .at))
     (sym (c .before .before .before .faulty-line .ensures) ∙ c .before .a .given .1)
-    (faulty-told (c .before .before .before .before .before .before .before .before .args .play .net .n)
+    (faulty-told (c .before .before .before .before .before .before .before .before .args .state .net .n)
     (now (c .before .before .before .before .before .before .before .before .args .s))
-    (c .before .before .before .before .before .before .before .before .args .play .at))
+    (c .before .before .before .before .before .before .before .before .args .state .at))
 
 returns : tie.Need-returns
-unfolding faultyPlay
-returns c = unless-refused _ _ (c .if1 .taken)
+unfolding faultyState
+returns c = unless-stopped _ _ (c .if1 .taken)
 
 faulty-line-requires : tie.Need-faulty-line-requires
 faulty-line-requires c κs = search needs
@@ -36,25 +36,25 @@ enum-told : tie.Need-enum-told
 enum-told c = search needs
 
 returns-2 : tie.Need-returns-2
-unfolding faultyPlay
+unfolding faultyState
 returns-2 c = unless-onward _
     (c .before .before .before .before .if1 .left) (rw (sym (c .before .before .faulty-line .ensures) ∙ c .enum-told .given .1) refl)
 
 cast-mark-faulty : tie.Need-cast-mark-faulty
 cast-mark-faulty c = omega
-    (arith, net-base-range (c .before .before .before .before .before .before .before .before .args .play .net .n) _ (told (c) .0) .1)
+    (arith, net-base-range (c .before .before .before .before .before .before .before .before .args .state .net .n) _ (told (c) .0) .1)
 
 cast-mark-faulty-2 : tie.Need-cast-mark-faulty-2
 cast-mark-faulty-2 c = omega (
   arith,
-  net-base-range (c .before .before .before .before .before .before .before .before .args .play .net .n) _ (told (c) .1 .0) .1,
+  net-base-range (c .before .before .before .before .before .before .before .before .args .state .net .n) _ (told (c) .1 .0) .1,
 )
 
 mark-faulty-requires : tie.Need-mark-faulty-requires
 mark-faulty-requires c κs = c .before .before .before .before .before .before .before .before .pre
 
 returns-3 : tie.Need-returns-3
-unfolding faultyPlay
+unfolding faultyState
 returns-3 c = unless-onward _ (c .before .before .before .before .before .before .if1 .left)
     (rw (sym (c .before .before .before .before .faulty-line .ensures) ∙ c .before .before .a .given .1) (c .mark-faulty .ensures))
 

@@ -4,17 +4,18 @@ use borrow.Author.Needs.{needs}
 use Prim.Native.Nat.{ℕ, _+_, _-_, _≤_}
 use mathlib.Core.Path.{_≡_, refl, ap, _∙_}
 use denote.Ref.{now}
-use Rattle.replay.specs.declared.play.Play.{Play}
-use Rattle.replay.specs.Play.{faultyPlay, repeatPlay}
-use Rattle.replay.specs.Play.Laws.{repeat-none, repeat-more, faulty-near}
+use Rattle.replay.specs.declared.state.ReplayState.{ReplayState}
+use Rattle.replay.specs.State.{faultyState, repeatState}
+use Rattle.replay.specs.State.Laws.{repeat-none, repeat-more, faulty-near}
 use Rattle.replay.proofs.header.faulty_steps.Statement.{statement}
 use Rattle.replay.proofs.header.faulty_steps.Tie as tie
 
 abbrev Inv-loop : tie.InvT-loop
-Inv-loop s t most play₀ k₀ play k = (k ≤ most) × ((most ≡ t + 1) × ((play .line ≤ 258 + k) × (play ≡ repeatPlay k (faultyPlay s) play₀)))
+Inv-loop s t most play₀ k₀ state k =
+    (k ≤ most) × ((most ≡ t + 1) × ((state .line ≤ 258 + k) × (state ≡ repeatState k (faultyState s) play₀)))
 
 abbrev μ-loop : tie.MeasureT-loop
-μ-loop s t most play₀ k₀ play k = most - k
+μ-loop s t most play₀ k₀ state k = most - k
 
 add-most : tie.Need-add-most Inv-loop μ-loop
 add-most c = search needs
@@ -39,9 +40,9 @@ loop-again c = let I = c .before .before .loop .inv in (
     (
       omega (
         arith,
-        ap (λ (p : Play). p .line) (c .faulty-step .ensures),
+        ap (λ (p : ReplayState). p .line) (c .faulty-step .ensures),
         faulty-near (now (c .before .before .before .before .args .s)) (258 + c .before .before .loop .k)
-            (c .before .before .loop .play) (I .1 .1 .0),
+            (c .before .before .loop .state) (I .1 .1 .0),
       ),
       repeat-more _ _ _ (I .1 .1 .1) (c .faulty-step .ensures),
     ),
@@ -50,7 +51,7 @@ loop-again c = let I = c .before .before .loop .inv in (
 
 returns : tie.Need-returns Inv-loop μ-loop
 returns c = c .before .loop .inv .1 .1 .1
-    ∙ ap (λ (k : ℕ). repeatPlay k (faultyPlay (now (c .before .before .before .args .s))) (c .before .before .before .args .first))
+    ∙ ap (λ (k : ℕ). repeatState k (faultyState (now (c .before .before .before .args .s))) (c .before .before .before .args .first))
     (omega (arith, c .before .loop .inv .0, c .before .loop .inv .1 .0, c .loop-test .left))
 
 pub faulty-steps-spec : {M : Type 1} → statement M

@@ -1,15 +1,15 @@
 -- `replay::header::id_step` meets its contract: the line's form, then numbers 3 and 14.
 use borrow.Author.Needs.{needs}
 use mathlib.Core.Path.{sym, ap, _∙_}
-use Rattle.net.specs.declared.Net.{Net}
-use Rattle.replay.specs.Play.{onwardPlay, idPlay}
-use Rattle.replay.specs.Play.Laws.{unless-refused, unless-onward, judged-refused, judged-onward}
+use Rattle.net.specs.declared.StoredNet.{StoredNet}
+use Rattle.replay.specs.State.{onwardState, idState}
+use Rattle.replay.specs.State.Laws.{unless-stopped, unless-onward, judged-refused, judged-onward}
 use Rattle.replay.proofs.header.id_step.Statement.{statement}
 use Rattle.replay.proofs.header.id_step.Tie as tie
 
 returns : tie.Need-returns
-unfolding idPlay
-returns c = unless-refused _ _ (c .if1 .taken)
+unfolding idState
+returns c = unless-stopped _ _ (c .if1 .taken)
 
 id-line-requires : tie.Need-id-line-requires
 id-line-requires c κs = search needs
@@ -24,7 +24,7 @@ refuse-requires : tie.Need-refuse-requires
 refuse-requires c κs = search needs
 
 returns-2 : tie.Need-returns-2
-unfolding idPlay
+unfolding idState
 returns-2 c = unless-onward _ (c .before .before .before .before .if1 .left)
     (rw (sym (c .before .before .before .id-line .ensures) ∙ c .before .enum-told .given .1) (c .refuse .ensures))
 
@@ -35,7 +35,7 @@ refuse-requires-2 : tie.Need-refuse-requires-2
 refuse-requires-2 c κs = search needs
 
 returns-3 : tie.Need-returns-3
-unfolding idPlay
+unfolding idState
 returns-3 c = unless-onward _ (c .before .before .before .before .before .before .before .before .if1 .left)
     (rw (sym (c .before .before .before .before .before .before .before .id-line .ensures)
     ∙ c .before .before .before .before .before .v .given .1)
@@ -48,12 +48,12 @@ onward-requires : tie.Need-onward-requires
 onward-requires c κs = c .before .before .before .before .before .before .before .before .before .before .before .pre
 
 returns-4 : tie.Need-returns-4
-unfolding idPlay
+unfolding idState
 returns-4 c = unless-onward _ (c .before .before .before .before .before .before .before .before .before .if1 .left)
     (rw (sym (c .before .before .before .before .before .before .before .before .id-line .ensures)
     ∙ c .before .before .before .before .before .before .v .given .1) (judged-onward
-    _ (c .before .before .before .id-refusal .ensures) (c .before .before .if2 .left) (c .onward .ensures ∙ ap (λ (w : Net).
-    onwardPlay (c .before .before .before .before .before .before .before .before .before .before .before .before .args .play)
+    _ (c .before .before .before .id-refusal .ensures) (c .before .before .if2 .left) (c .onward .ensures ∙ ap (λ (w : StoredNet).
+    onwardState (c .before .before .before .before .before .before .before .before .before .before .before .before .args .state)
     w (c .before .before .before .before .before .before .v .given .0 .1 .0)) (c .before .named .ensures))))
 
 pub id-step-spec : {M : Type 1} → statement M

@@ -4,17 +4,17 @@ use Prim.Native.Nat.{_+_, _-_, _≤_}
 use mathlib.Core.Path.{_≡_, ap, _∙_}
 use Prim.Native.Nat.{ℕ}
 use denote.Ref.{now}
-use Rattle.replay.specs.declared.play.Play.{Play}
-use Rattle.replay.specs.Play.{idPlays}
-use Rattle.replay.specs.Play.Laws.{ids-none, ids-more, id-near}
+use Rattle.replay.specs.declared.state.ReplayState.{ReplayState}
+use Rattle.replay.specs.State.{idStates}
+use Rattle.replay.specs.State.Laws.{ids-none, ids-more, id-near}
 use Rattle.replay.proofs.header.id_steps.Statement.{statement}
 use Rattle.replay.proofs.header.id_steps.Tie as tie
 
 abbrev Inv-loop : tie.InvT-loop
-Inv-loop s n play₀ b₀ play b = (b ≤ n) × ((play .line ≤ 2 + b) × (play ≡ idPlays s b play₀))
+Inv-loop s n play₀ b₀ state b = (b ≤ n) × ((state .line ≤ 2 + b) × (state ≡ idStates s b play₀))
 
 abbrev μ-loop : tie.MeasureT-loop
-μ-loop s n play₀ b₀ play b = n - b
+μ-loop s n play₀ b₀ state b = n - b
 
 loop-holds : tie.Need-loop-holds Inv-loop μ-loop
 loop-holds c = (omega arith, (omega (arith, c .before .pre), ids-none _ _))
@@ -34,9 +34,9 @@ loop-again c = (
   (
     omega (
       arith,
-      ap (λ (p : Play). p .line) (c .id-step .ensures),
+      ap (λ (p : ReplayState). p .line) (c .id-step .ensures),
       id-near (now (c .before .before .before .before .args .s))
-          (c .before .before .loop .b + 1) (2 + c .before .before .loop .b) (c .before .before .loop .play)
+          (c .before .before .loop .b + 1) (2 + c .before .before .loop .b) (c .before .before .loop .state)
           (c .before .before .loop .inv .1 .0),
     ),
     ids-more _ _ _ (c .before .before .loop .inv .1 .1) (c .id-step .ensures),
@@ -44,7 +44,7 @@ loop-again c = (
 )
 
 returns : tie.Need-returns Inv-loop μ-loop
-returns c = c .before .loop .inv .1 .1 ∙ ap (λ (k : ℕ). idPlays (now (c .before .before .before .args .s))
+returns c = c .before .loop .inv .1 .1 ∙ ap (λ (k : ℕ). idStates (now (c .before .before .before .args .s))
     k (c .before .before .before .args .first)) (omega (arith, c .before .loop .inv .0, c .loop-test .left))
 
 pub id-steps-spec : {M : Type 1} → statement M

@@ -2,12 +2,12 @@
 use native.Mathlib.Omega.{arith}
 use borrow.Author.Needs.{needs}
 use mathlib.Core.Path.{_≡_, sym, ap, ap₂, _∙_}
-use Rattle.net.specs.declared.Net.{Net}
-use Rattle.schedule.specs.Header.{sizeRefusal}
-use Rattle.schedule.specs.Story.Begins.{size-passed}
-use Rattle.replay.specs.declared.play.Play.{Play}
-use Rattle.replay.specs.Play.{unreadPlay, refusedPlay, onwardPlay, netPlay}
-use Rattle.replay.specs.Play.Laws.{judged-refused, judged-onward}
+use Rattle.net.specs.declared.StoredNet.{StoredNet}
+use Rattle.limits.specs.Refusals.{sizeRefusal}
+use Rattle.schedule.specs.Meaning.Begins.{size-passed}
+use Rattle.replay.specs.declared.state.ReplayState.{ReplayState}
+use Rattle.replay.specs.State.{unreadState, refusedState, onwardState, netState}
+use Rattle.replay.specs.State.Laws.{judged-refused, judged-onward}
 use Rattle.replay.proofs.header.net_step.Statement.{statement}
 use Rattle.replay.proofs.header.net_step.Tie as tie
 
@@ -30,9 +30,9 @@ refuse-requires : tie.Need-refuse-requires
 refuse-requires c κs = search needs
 
 returns : tie.Need-returns
-unfolding netPlay
+unfolding netState
 returns c = rw (sym (c .before .before .before .before .net-line .ensures) ∙ c .before .before .enum-told .given .1)
-    (c .refuse .ensures ∙ ap (refusedPlay 13) (c .before .unread .ensures))
+    (c .refuse .ensures ∙ ap (refusedState 13) (c .before .unread .ensures))
 
 size-refusal-requires : tie.Need-size-refusal-requires
 size-refusal-requires c κs = search needs
@@ -44,11 +44,11 @@ refuse-requires-2 : tie.Need-refuse-requires-2
 refuse-requires-2 c κs = search needs
 
 returns-2 : tie.Need-returns-2
-unfolding netPlay
+unfolding netState
 returns-2 c = rw (sym (c .before .before .before .before .before .before .before .net-line .ensures)
     ∙ c .before .before .before .before .before .n .given .1)
     (judged-refused _ _ (c .before .before .before .size-refusal .ensures) (c .before .before .if1 .taken)
-    (c .refuse2 .ensures ∙ ap (refusedPlay (c .before .before .before .size-refusal .result)) (c .before .unread2 .ensures)))
+    (c .refuse2 .ensures ∙ ap (refusedState (c .before .before .before .size-refusal .result)) (c .before .unread2 .ensures)))
 
 unread-requires-3 : tie.Need-unread-requires-3
 unread-requires-3 c κs = search needs
@@ -63,15 +63,15 @@ made-requires : tie.Need-made-requires
 made-requires c κs = search needs
 
 onward-requires : tie.Need-onward-requires
-unfolding unreadPlay
-onward-requires c κs = omega (arith, ap (λ (p : Play). p .line) (c .before .unread3 .ensures))
+unfolding unreadState
+onward-requires c κs = omega (arith, ap (λ (p : ReplayState). p .line) (c .before .unread3 .ensures))
 
 returns-3 : tie.Need-returns-3
-unfolding netPlay
+unfolding netState
 returns-3 c = rw (sym (c .before .before .before .before .before .before .before .before .net-line .ensures)
     ∙ c .before .before .before .before .before .before .n .given .1)
     (judged-onward _ (c .before .before .before .before .size-refusal .ensures) (c .before .before .before .if1 .left) (c .onward .ensures
-    ∙ ap₂ (λ (p : Play) (w : Net). onwardPlay p w (c .before .before .before .before .before .before .n .given .0 .1 .1 .0))
+    ∙ ap₂ (λ (p : ReplayState) (w : StoredNet). onwardState p w (c .before .before .before .before .before .before .n .given .0 .1 .1 .0))
     (c .before .before .unread3 .ensures) (c .before .made .ensures)))
 
 pub net-step-spec : {M : Type 1} → statement M

@@ -5,7 +5,7 @@ use mathlib.Core.Path.{sym, _∙_}
 use borrow.Author.Tests.{lt-ltb, le-ltb}
 use Rattle.limits.specs.Refusals.Laws.{net-passed}
 use Rattle.lists.specs.Choice.Laws.{first-given, first-none, choose-yes, choose-no}
-use Rattle.schedule.specs.Header.{sizeRefusal}
+use Rattle.limits.specs.Refusals.{sizeRefusal}
 use Rattle.replay.proofs.header.size_refusal.Statement.{statement}
 use Rattle.replay.proofs.header.size_refusal.Tie as tie
 

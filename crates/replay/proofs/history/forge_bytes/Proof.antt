@@ -9,7 +9,7 @@ use lib.Seq.{length-take-le}
 use denote.Ref.{now}
 use Rattle.text.specs.Hex.{hexBytes}
 use Rattle.text.specs.Hex.Laws.{length-hex, hex-front}
-use Rattle.net.specs.Shown.{pairsOf}
+use Rattle.net.specs.Abstraction.{pairsOf}
 use Rattle.events.specs.Events.{forgedTo}
 use Rattle.replay.proofs.history.forge_bytes.Statement.{statement}
 use Rattle.replay.proofs.history.forge_bytes.Tie as tie

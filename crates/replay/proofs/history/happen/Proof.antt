@@ -3,7 +3,7 @@ use mathlib.Core.Path.{refl, ap, subst}
 use denote.Ref.{now}
 use Rattle.node_calls.specs.declared.Told.{Told}
 use Rattle.node_calls.specs.Calls.{told}
-use Rattle.replay.specs.Play.{HasBytes}
+use Rattle.replay.specs.State.{HasBytes}
 use Rattle.replay.specs.Turn.{reachedBy}
 use borrow.Author.Needs.{needs}
 use Rattle.replay.proofs.history.happen.Statement.{statement}

@@ -1,6 +1,6 @@
 -- `replay::history::next_of` meets its contract: each line names it.
 use borrow.Author.Needs.{needs}
-use Rattle.replay.specs.Play.{nextOf}
+use Rattle.replay.specs.State.{nextOf}
 use Rattle.replay.proofs.history.next_of.Statement.{statement}
 use Rattle.replay.proofs.history.next_of.Tie as tie
 

@@ -8,7 +8,7 @@ use lib.ListN.{length}
 use Rattle.print.specs.Put.{Put}
 use Rattle.print.specs.Put.Laws.{put-none, put-as, put-then}
 use Rattle.protocol.specs.declared.Base.{Base}
-use Rattle.net.specs.Shown.{shown}
+use Rattle.net.specs.Abstraction.{netOf}
 use Rattle.schedule.specs.Report.{lineRoom, baseLine, baseLines}
 use Rattle.report.specs.Laws.{line-there, bases-none, bases-more}
 use Rattle.replay.proofs.output.put_bases.Statement.{statement}
@@ -16,13 +16,13 @@ use Rattle.replay.proofs.output.put_bases.Tie as tie
 
 abbrev Inv-loop : tie.InvT-loop
 Inv-loop net n out₀ at₀ b₀ out at b =
-    (b ≤ n) × ((at ≤ lineRoom * b) × ((length out ≡ length out₀) × Put out₀ 0 (baseLines b (shown net)) out at))
+    (b ≤ n) × ((at ≤ lineRoom * b) × ((length out ≡ length out₀) × Put out₀ 0 (baseLines b (netOf net)) out at))
 
 abbrev μ-loop : tie.MeasureT-loop
 μ-loop net n out₀ at₀ b₀ out at b = n - b
 
 loop-holds : tie.Need-loop-holds Inv-loop μ-loop
-loop-holds c = (omega arith, (omega arith, (refl, put-as (sym (bases-none (shown (c .before .args .net)))) (put-none _ _))))
+loop-holds c = (omega arith, (omega arith, (refl, put-as (sym (bases-none (netOf (c .before .args .net)))) (put-none _ _))))
 
 add-b : tie.Need-add-b Inv-loop μ-loop
 add-b c = omega arith
@@ -53,7 +53,7 @@ loop-again c = let I = c .before .before .before .before .before .before .loop .
         (
           c .before .before .base-line .kept .0 ∙ I .1 .1 .0,
           put-as (ap (λ (x : Base). baseLines (c .before .before .before .before .before .before .loop .b)
-              (shown (c .before .before .before .before .before .before .before .before .args .net)) ++ baseLine
+              (netOf (c .before .before .before .before .before .before .before .before .args .net)) ++ baseLine
               (c .before .before .before .before .before .before .loop .b + 1) x) (c .before .before .before .base-of .ensures)
               ∙ bases-more _ _) (put-then (I .1 .1 .1) P),
         ),
@@ -66,7 +66,7 @@ same-length c = c .before .loop .inv .1 .1 .0
 returns : tie.Need-returns Inv-loop μ-loop
 returns c =
     let e : c .before .loop .b ≡ c .before .before .before .args .n = omega (arith, c .before .loop .inv .0, c .loop-test .left) in (
-      put-as (ap (λ (k : ℕ). baseLines k (shown (c .before .before .before .args .net))) e) (c .before .loop .inv .1 .1 .1),
+      put-as (ap (λ (k : ℕ). baseLines k (netOf (c .before .before .before .args .net))) e) (c .before .loop .inv .1 .1 .1),
       subst (λ (k : ℕ). c .before .loop .at ≤ lineRoom * k) e (c .before .loop .inv .1 .0),
     )
 

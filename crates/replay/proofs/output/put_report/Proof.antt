@@ -7,10 +7,10 @@ use Prim.Native.Nat.{ℕ}
 use borrow.Author.Tests.{eq-eqb, ne-eqb}
 use Rattle.lists.specs.Choice.Laws.{chosen-yes, chosen-no}
 use Rattle.print.specs.Put.Laws.{put-as, put-then, text-length}
-use Rattle.net.specs.Shown.{shown}
+use Rattle.net.specs.Abstraction.{netOf}
 use Rattle.schedule.specs.Report.{baseLines, waitingLine}
 use Rattle.report.specs.Laws.{line-there}
-use Rattle.replay.specs.Play.{reportPlay}
+use Rattle.replay.specs.State.{reportState}
 use Rattle.replay.proofs.output.put_report.Statement.{statement}
 use Rattle.replay.proofs.output.put_report.Tie as tie
 
@@ -21,7 +21,7 @@ same-length : tie.Need-same-length
 same-length c = search needs
 
 returns : tie.Need-returns
-unfolding reportPlay
+unfolding reportState
 returns c = (
   put-as (chosen-no _ (ne-eqb _ 0 (c .before .before .before .before .if1 .taken)) refl)
       (line-there (omega (arith, c .before .before .before .before .before .before .pre .0)) (c .before .before .refused-line .ensures .0)
@@ -43,7 +43,7 @@ same-length-2 : tie.Need-same-length-2
 same-length-2 c = search needs
 
 returns-2 : tie.Need-returns-2
-unfolding reportPlay
+unfolding reportState
 returns-2 c = let n = c .before .before .before .before .before .before .before .before .before .before .before .before .pre .1
     (c .before .before .before .before .before .before .before .before .before .before .if1 .left) in
     let P = line-there (omega (
@@ -56,8 +56,8 @@ returns-2 c = let n = c .before .before .before .before .before .before .before 
     (c .before .before .waiting-line .ensures .0) (c .before .before .waiting-line .ensures .1 .0) in (
       put-as (chosen-yes _ (eq-eqb _ 0 (c .before .before .before .before .before .before .before .before .before .before .if1 .left))
           (ap (λ (k : ℕ). baseLines
-          (c .before .before .before .before .before .before .before .before .before .before .before .before .args .play .net .n)
-          (shown (c .before .before .before .before .before .before .before .before .before .before .before .before .args .play .net))
+          (c .before .before .before .before .before .before .before .before .before .before .before .before .args .state .net .n)
+          (netOf (c .before .before .before .before .before .before .before .before .before .before .before .before .args .state .net))
           ++ waitingLine k) (c .before .before .before .waiting .ensures)))
           (put-then (c .before .before .before .before .before .before .before .put-bases .ensures .0) P),
       omega (
