@@ -98,7 +98,7 @@ represents-named b v least most {w} {n} {t} {faulty} {W} S = record {
   record-n = ap (λ (x : StoredNet). x .n) (with-node-is w b u B) ∙ S .record-n;
   record-t = ap (λ (x : StoredNet). x .t) (with-node-is w b u B) ∙ S .record-t;
   links = with-node-links w b u B ∙ S .links;
-  abstracts = shows-now
+  abstracts = abstracts-now
       ∙ ap (λ (U : Nets.Net). record { base = replaced b (idleBase n t v) (U .base); log = U .log; carried = U .carried }) (S .abstracts);
   sized = with-node-sized w b u B (S .sized) (unfold withBase in record { frames = old .frames; heard = old .heard });
 }
@@ -128,12 +128,12 @@ represents-named b v least most {w} {n} {t} {faulty} {W} S = record {
     carried x y j = ap (λ (z : Node). heardBy z x j) (node-now y) ∙ replaced-map (λ (z : Node). heardBy z x j) b u (nodeAt w) y
         ∙ replaced-self b (λ z. heardBy (nodeAt w z) x j) (heardBy u x j) (unfold withBase heardBy in refl) y
 
-    shows-now : netOf (withNode w b u)
+    abstracts-now : netOf (withNode w b u)
         ≡ record { base = replaced b (idleBase n t v) (netOf w .base); log = netOf w .log; carried = netOf w .carried }
-    shows-now = unfold netOf in net-same _ _ base log carried
+    abstracts-now = unfold netOf in net-same _ _ base log carried
 
 -- ---- `faulty a b`
-map-snoc : (pairs : List Pair) (p : Pair) → map pairOf (pairs ++ (p ∷ [])) ≡ map pairOf pairs ++ (pairOf p ∷ [])
+map-snoc : (pairs : List FaultyLink) (p : FaultyLink) → map pairOf (pairs ++ (p ∷ [])) ≡ map pairOf pairs ++ (pairOf p ∷ [])
 map-snoc [] p = refl
 map-snoc (q ∷ pairs) p = ap (λ (l : List Nets.Pair). pairOf q ∷ l) (map-snoc pairs p)
 
