@@ -286,8 +286,8 @@ event-follows e next p st H proper F =
     }
 
 -- what a line does
-abbrev played : List ℕ → Line → ReplayState → ReplayState
-played s x p = advanced p (happened s (p .net) x) (nextOf x)
+abbrev stepped : List ℕ → Line → ReplayState → ReplayState
+stepped s x p = advanced p (happened s (p .net) x) (nextOf x)
 
 wrong-follows : (p : ReplayState) (st : Progress)
     → SameProgress p st → SameProgress (advanced p (record { refusal = 13; net = p .net }) 0) (Meanings.refuse 13 st)
@@ -296,7 +296,7 @@ wrong-follows p st F = subst (λ (q : ReplayState). SameProgress q (Meanings.ref
     (sym (choose-no (onwardState p (p .net) 0) (refusedState 13 p) refl)) (refused-follows 13 F)
 
 line-follows : (s : List ℕ) (p : ReplayState) (st : Progress) (i : ℕ) (x : Line)
-    → EventTold (st .n) s i x → Told st → SameProgress p st → SameProgress (played s x p) (Meanings.lineStep s x st)
+    → EventTold (st .n) s i x → Told st → SameProgress p st → SameProgress (stepped s x p) (Meanings.lineStep s x st)
 unfolding happened nextOf eventState Meanings.lineStep
 line-follows s p st i (Start b next) told H F =
     event-follows (starts b outputRoom) next p st H (proper-start (st .n) b outputRoom (told .0)) F
@@ -311,8 +311,8 @@ read-follows : (s : List ℕ) (p : ReplayState) (st : Progress)
     → Told st → SameProgress p st → SameProgress (lineState s p) (Meanings.lineStep s (eventLine (st .n) s (st .at)) st)
 unfolding lineState
 read-follows s p st H F =
-    subst (λ (i : ℕ). SameProgress (played s (eventLine (p .net .n) s (p .at)) p) (Meanings.lineStep s (eventLine (st .n) s i) st)) (F .at)
-    (subst (λ (n : ℕ). SameProgress (played s (eventLine n s (p .at)) p) (Meanings.lineStep s (eventLine (st .n) s (p .at)) st))
+    subst (λ (i : ℕ). SameProgress (stepped s (eventLine (p .net .n) s (p .at)) p) (Meanings.lineStep s (eventLine (st .n) s i) st)) (F .at)
+    (subst (λ (n : ℕ). SameProgress (stepped s (eventLine n s (p .at)) p) (Meanings.lineStep s (eventLine (st .n) s (p .at)) st))
     (sym (F .net .record-n))
     (line-follows s p st (p .at) (eventLine (st .n) s (p .at)) (event-told (st .n) s (p .at)) H F))
 

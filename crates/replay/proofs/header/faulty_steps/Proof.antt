@@ -11,11 +11,11 @@ use Rattle.replay.proofs.header.faulty_steps.Statement.{statement}
 use Rattle.replay.proofs.header.faulty_steps.Tie as tie
 
 abbrev Inv-loop : tie.InvT-loop
-Inv-loop s t most play₀ k₀ state k =
-    (k ≤ most) × ((most ≡ t + 1) × ((state .line ≤ 258 + k) × (state ≡ repeatState k (faultyState s) play₀)))
+Inv-loop s t most state₀ k₀ state k =
+    (k ≤ most) × ((most ≡ t + 1) × ((state .line ≤ 258 + k) × (state ≡ repeatState k (faultyState s) state₀)))
 
 abbrev μ-loop : tie.MeasureT-loop
-μ-loop s t most play₀ k₀ state k = most - k
+μ-loop s t most state₀ k₀ state k = most - k
 
 add-most : tie.Need-add-most Inv-loop μ-loop
 add-most c = search needs

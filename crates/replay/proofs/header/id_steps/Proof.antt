@@ -11,10 +11,10 @@ use Rattle.replay.proofs.header.id_steps.Statement.{statement}
 use Rattle.replay.proofs.header.id_steps.Tie as tie
 
 abbrev Inv-loop : tie.InvT-loop
-Inv-loop s n play₀ b₀ state b = (b ≤ n) × ((state .line ≤ 2 + b) × (state ≡ idStates s b play₀))
+Inv-loop s n state₀ b₀ state b = (b ≤ n) × ((state .line ≤ 2 + b) × (state ≡ idStates s b state₀))
 
 abbrev μ-loop : tie.MeasureT-loop
-μ-loop s n play₀ b₀ state b = n - b
+μ-loop s n state₀ b₀ state b = n - b
 
 loop-holds : tie.Need-loop-holds Inv-loop μ-loop
 loop-holds c = (omega arith, (omega (arith, c .before .pre), ids-none _ _))

@@ -4,7 +4,7 @@ use borrow.Author.Needs.{needs}
 use mathlib.Core.Path.{_≡_, sym, ap, ap₂, _∙_}
 use Rattle.net.specs.declared.StoredNet.{StoredNet}
 use Rattle.limits.specs.Refusals.{sizeRefusal}
-use Rattle.schedule.specs.Meaning.Begins.{size-passed}
+use Rattle.limits.specs.Refusals.Laws.{size-passed}
 use Rattle.replay.specs.declared.state.ReplayState.{ReplayState}
 use Rattle.replay.specs.State.{unreadState, refusedState, onwardState, netState}
 use Rattle.replay.specs.State.Laws.{judged-refused, judged-onward}
