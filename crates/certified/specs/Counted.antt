@@ -2,19 +2,14 @@
 -- identifier, the tally of a list and the number of Correct-Finals are counted so.
 use Prim.Native.Nat.{ℕ, _+_, _-_, _≤_, _<_, min}
 use mathlib.Core.Path.{_≡_, refl, ap, _∙_}
-use mathlib.Core.Bool.{Bool, true, false}
-use mathlib.Core.List.{List}
+use mathlib.Core.Bool.{Bool}
 use native.Mathlib.Omega.{arith}
-use borrow.Author.Tests.{eqb-true}
 use Rattle.limits.specs.Limits.{mostLinks}
-use Rattle.lists.specs.Choice.{or}
-use Rattle.lists.specs.Choice.Laws.{and-true}
 use Rattle.counting.specs.Sums.{bit, sum}
 use Rattle.counting.specs.Sums.Bounds.{bit-most}
 use Rattle.counting.specs.Sums.Loops.{count-turn}
 use Rattle.protocol.specs.declared.Base.{Base}
 use Rattle.protocol.specs.declared.Link.{Link}
-use Rattle.protocol.specs.Links.{holdsVector, holdsCorrect, holdsVerifyFinal, holdsList}
 use Rattle.protocol.specs.Record.{linkAt, linkCount, links}
 
 -- of k links those at the places below i have been looked at
@@ -42,16 +37,3 @@ module _ (b : Base) (p : Link → Bool) where
   counted-all {k} {i} {count} C h e =
       let all : i ≡ min (b .n - 1) mostLinks = omega (arith, C .place) in
       (C .is ∙ ap (λ (m : ℕ). sum m (λ j. bit (p (linkAt b j)))) all, omega (arith, C .few))
-
--- ---- a link holds one vector message at most, so it gives one to the tally of a list
-bit-either : (x y : Bool) → (x ≡ true → y ≡ true → ⊥) → bit x + bit y ≡ bit (or x y)
-unfolding bit or
-bit-either true true h = absurd (h refl refl)
-bit-either true false h = refl
-bit-either false true h = refl
-bit-either false false h = refl
-
-pub vector-once : (n : ℕ) (l : Link) (v : List ℕ) → bit (holdsVector n 3 l v) + bit (holdsVector n 4 l v) ≡ bit (holdsList n l v)
-unfolding holdsList holdsCorrect holdsVerifyFinal holdsVector
-vector-once n l v =
-    bit-either _ _ (λ e f. omega (arith, eqb-true (l .held) 3 (and-true _ _ e .0), eqb-true (l .held) 4 (and-true _ _ f .0)))
