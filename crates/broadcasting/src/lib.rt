@@ -12,8 +12,8 @@ ghost use lib.ListN.{length};
 ghost use Rattle.frame.specs.Encoding.{over};
 ghost use Rattle.broadcasting.specs.Broadcasting.{frameIn, lastFrame, acceptedWith, behindStart};
 
-// The frame of a kind and as many identifiers of an array as the kind holds. Nothing is written, length 0, for a kind that there is not, for
-// more identifiers than the array has, and where the output has no room.
+// The frame of a kind and as many identifiers of an array as the kind holds. Nothing is written, length 0, for a kind that there is
+// not, for more identifiers than the array has, and where the output has no room.
 fn say(kind: u8, n: u8, ids: [u32; MOST_BASES], out: &mut [u8]) -> usize
     ensures { λ r. ⌜ (r ≡ length (frameIn n kind ids (length (now (out .entry)))))
         × (now (out .exit) ≡ over (frameIn n kind ids (length (now (out .entry)))) (now (out .entry))) ⌝ }

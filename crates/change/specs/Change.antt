@@ -20,11 +20,11 @@ changedBase b c = record {
 }
 
 -- the answer is that of d, and so is the record once the change is made
-pub record Changes (b : Base) (d : Done) (c : Change) : Type 0 where
+pub record ChangeOf (b : Base) (d : Done) (c : Change) : Type 0 where
   pub outcome : c .outcome ≡ outcomeOf (d .answer) (d .says)
   pub base : changedBase b c ≡ d .base
 
 -- the answer, the record and the output are those of d
 pub record Does (b : Base) (d : Done) (c : Change) (output after : List ℕ) : Type 0 where
-  pub changes : Changes b d c
+  pub changes : ChangeOf b d c
   pub written : after ≡ outputOf d output

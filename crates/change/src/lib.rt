@@ -6,7 +6,7 @@ use protocol::Link;
 use protocol::Outcome;
 ghost use mathlib.Core.Path.{_≡_};
 ghost use Rattle.protocol.specs.Steps.{refuses, discards, withState};
-ghost use Rattle.change.specs.Change.{changedBase, Changes};
+ghost use Rattle.change.specs.Change.{changedBase, ChangeOf};
 
 // The answer, and what is set: state, sent, final list, and the link at one place.
 pub struct Change {
@@ -54,14 +54,14 @@ pub fn only_state(base: Base, state: u8, outcome: Outcome) -> Change
 
 // A call that is turned down changes nothing.
 pub fn refused(base: Base, number: u8) -> Change
-    ensures { λ r. ⌜ Changes base (refuses base number) r ⌝ }
+    ensures { λ r. ⌜ ChangeOf base (refuses base number) r ⌝ }
 {
     only_state(base, base.state, Outcome::Refused(number))
 }
 
 // A message that is discarded at a base of that state.
 pub fn discarded(base: Base, state: u8) -> Change
-    ensures { λ r. ⌜ Changes base (discards (withState base state)) r ⌝ }
+    ensures { λ r. ⌜ ChangeOf base (discards (withState base state)) r ⌝ }
 {
     only_state(
         base,

@@ -14,8 +14,8 @@ use sorting::certified_sorted;
 ghost use mathlib.Core.Path.{_≡_};
 ghost use Rattle.deciding.specs.Deciding.{primeDecision, secondaryDecision, voteDecision, decisionOf, runsOn};
 
-// The kind of the frame that is broadcast before the check, zero for none; whether a Verify-Final was sent; whether the check stops the base, and
-// its state and final list then.
+// The kind of the frame that is broadcast before the check, zero for none; whether a Verify-Final was sent; whether the check stops
+// the base, and its state and final list then.
 pub struct Decision {
     pub first: u8,
     pub sent: u8,

@@ -19,6 +19,6 @@ messageRefusal n kind ids =
     first (kindRefusal n kind (expected kind n))
     (choose (zeros (drop (expected kind n) ids)) (listRefusal (take (expected kind n) ids)) 9)
 
-unfoldable pub heard : Base → ℕ → ℕ → List ℕ → ℕ → Done
-heard b link kind ids room =
+unfoldable pub messageArrival : Base → ℕ → ℕ → List ℕ → ℕ → Done
+messageArrival b link kind ids room =
     unless (first (placeRefusal b link room) (messageRefusal (b .n) kind ids)) b (arrivalStep b (link - 1) (messageIn (b .n) kind ids))

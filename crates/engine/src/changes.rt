@@ -29,15 +29,15 @@ ghost use Rattle.lists.specs.Choice.{first};
 ghost use Rattle.protocol.specs.Steps.{arrival};
 ghost use Rattle.protocol.specs.Steps as Steps;
 ghost use Rattle.change.specs.Change.{Does};
-ghost use Rattle.engine.specs.Hearing.{messageRefusal, heard};
+ghost use Rattle.engine.specs.Hearing.{messageRefusal, messageArrival};
 
 // Starts an idle base: Announce and Verify of its own identifier. Turned down by 1 to 4 and 6.
 pub fn start(base: Base, out: &mut [u8]) -> Change
     ensures { λ r. ⌜ Does base (Steps.start base (length (now (out .entry)))) r (now (out .entry)) (now (out .exit)) ⌝ }
 {
-    let number = start_refusal(base, out.len());
-    if number != 0 {
-        return refused(base, number);
+    let turned_down = start_refusal(base, out.len());
+    if turned_down != 0 {
+        return refused(base, turned_down);
     }
     if base.state != IDLE {
         return discarded(base, base.state);
@@ -68,10 +68,11 @@ fn message_refusal(n: u8, kind: u8, ids: [u32; MOST_BASES]) -> u8
     list_refusal(&ids[..count])
 }
 
-// A message that was read arrives on a link, 1 to n - 1: its kind, and its identifiers with zeros behind. Turned down by 1 to 6, and by 8, 9,
-// 11 and 12 where no reading gives such a message.
+// A message that was read arrives on a link, 1 to n - 1: its kind, and its identifiers with zeros behind. Turned down by 1 to 6, and by
+// 8, 9, 11 and 12 where no reading gives such a message.
 pub fn hear(base: Base, link: usize, kind: u8, ids: [u32; MOST_BASES], out: &mut [u8]) -> Change
-    ensures { λ r. ⌜ Does base (heard base link kind ids (length (now (out .entry)))) r (now (out .entry)) (now (out .exit)) ⌝ }
+    ensures { λ r. ⌜ Does base (messageArrival base link kind ids (length (now (out .entry)))) r
+        (now (out .entry)) (now (out .exit)) ⌝ }
 {
     let place = place_refusal(base, link, out.len());
     if place != 0 {
@@ -96,7 +97,8 @@ fn first_of(a: u8, b: u8) -> u8
 
 // A burst arrives on a link, 1 to n - 1. Turned down by 1 to 12.
 pub fn arrive(base: Base, link: usize, burst: &[u8], out: &mut [u8]) -> Change
-    ensures { λ r. ⌜ Does base (arrival base link (now (burst .entry)) (length (now (out .entry)))) r (now (out .entry)) (now (out .exit)) ⌝ }
+    ensures { λ r. ⌜ Does base (arrival base link (now (burst .entry)) (length (now (out .entry)))) r
+        (now (out .entry)) (now (out .exit)) ⌝ }
 {
     let n = base.n as usize;
     match read(n, burst) {

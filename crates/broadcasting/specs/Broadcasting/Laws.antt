@@ -107,7 +107,8 @@ module _ (n first : ℕ) (ids : List ℕ) (stops : Bool) (list output : List ℕ
         p ∙ ap (λ (x : ℕ). acceptedWith x 0) s
             ∙ ap (λ (l : List ℕ). acceptedWith (length (frameIn n first ids (length output))) (length l)) (sym z),
         q ∙ ap (λ (b : List ℕ). over b output)
-            (sym (append-nil (frameIn n first ids (length output))) ∙ ap (λ (l : List ℕ). frameIn n first ids (length output) ++ l) (sym z)),
+            (sym (append-nil (frameIn n first ids (length output)))
+            ∙ ap (λ (l : List ℕ). frameIn n first ids (length output) ++ l) (sym z)),
       )
 
   pub stops-said : (r : Outcome) (size back room : ℕ) (after : List ℕ) → stops ≡ true → size ≡ length (frameIn n first ids (length output))

@@ -11,7 +11,7 @@ use Rattle.protocol.specs.declared.Outcome.{Outcome}
 use Rattle.protocol.specs.Links.{noLink}
 use Rattle.protocol.specs.Steps.{Done, refuses, discards, withState, encodeAll, outputOf}
 use Rattle.change.specs.declared.Change.{Change}
-use Rattle.change.specs.Change.{changedBase, Changes, Does}
+use Rattle.change.specs.Change.{changedBase, ChangeOf, Does}
 
 -- ---- what the code makes
 -- no place that there is
@@ -46,10 +46,10 @@ pub does-as : {b : Base} {d k : Done} {c : Change} {output after : List ℕ} →
 does-as {b} {d} {k} {c} {output} {after} e p = subst (λ (x : Done). Does b x c output after) (sym e) p
 
 -- ---- a call that broadcasts nothing
-pub refuses-does : {b : Base} (r : ℕ) {c : Change} (output : List ℕ) → Changes b (refuses b r) c → Does b (refuses b r) c output output
+pub refuses-does : {b : Base} (r : ℕ) {c : Change} (output : List ℕ) → ChangeOf b (refuses b r) c → Does b (refuses b r) c output output
 unfolding outputOf refuses encodeAll
 refuses-does r output p = record { changes = p; written = sym (over-nothing output) }
 
-pub discards-does : {b : Base} (d : Base) {c : Change} (output : List ℕ) → Changes b (discards d) c → Does b (discards d) c output output
+pub discards-does : {b : Base} (d : Base) {c : Change} (output : List ℕ) → ChangeOf b (discards d) c → Does b (discards d) c output output
 unfolding outputOf discards encodeAll
 discards-does d output p = record { changes = p; written = sym (over-nothing output) }

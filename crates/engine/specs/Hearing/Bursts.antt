@@ -1,4 +1,4 @@
--- A burst that the reader took or turned down, and what the arrival is then: what was read is heard.
+-- A burst that the reader took or turned down, and what the arrival is then: what was read arrives.
 use Prim.Native.Nat.{ℕ, zero, suc, _-_}
 use mathlib.Core.Path.{_≡_, refl, sym, ap, ap₂, _∙_}
 use mathlib.Core.Logic.{_≢_}
@@ -27,7 +27,7 @@ use Rattle.protocol.specs.Steps.{refuses, unless, linkRefusal, outputRefusal, a
 use Rattle.protocol.specs.Steps.Refusals.{unless-refused}
 use Rattle.soundness.specs.Place.{placeRefusal}
 use Rattle.change.specs.Heard.{messageIn}
-use Rattle.engine.specs.Hearing.{messageRefusal, heard}
+use Rattle.engine.specs.Hearing.{messageRefusal, messageArrival}
 use Rattle.engine.specs.Hearing.Laws.{place-passed}
 
 -- ---- numbers 1 to 6, then 7 to 12
@@ -114,7 +114,7 @@ module _ (b : Base) (link : ℕ) (s : List ℕ) (room : ℕ) where
       unfolding messageIn messageOf
       says = ap (message (kindByte s)) (sym front) ∙ ap (λ (k : ℕ). message k (take (expected kind (b .n)) ids)) (sym same-kind)
 
-      pub read-heard : arrival b link s room ≡ heard b link kind ids room
-      unfolding arrival heard
+      pub read-heard : arrival b link s room ≡ messageArrival b link kind ids room
+      unfolding arrival messageArrival
       read-heard = ap₂ (λ (r : ℕ) (m : Message). unless r b (arrivalStep b (link - 1) m))
           (arrival-number b link s room ∙ ap (first (placeRefusal b link room)) (burst ∙ sym read-passes)) says

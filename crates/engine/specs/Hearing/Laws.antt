@@ -23,7 +23,7 @@ use Rattle.protocol.specs.Steps.Refusals.{unless-passed, unless-refused, link-p
 use Rattle.soundness.specs.Place.{placeRefusal}
 use Rattle.change.specs.Heard.{HoldsFirst, MessageIn, messageIn}
 use Rattle.engine.specs.Settling.{Ready}
-use Rattle.engine.specs.Hearing.{messageRefusal, heard}
+use Rattle.engine.specs.Hearing.{messageRefusal, messageArrival}
 
 -- ---- what numbers 1 to 6 leave
 pub record Admitted (b : Base) (link room : ℕ) : Type 0 where
@@ -64,22 +64,22 @@ message-passed n kind ids some most l e =
 
 -- ---- the call
 module _ (b : Base) (link kind : ℕ) (ids : List ℕ) (room : ℕ) where
-  pub place-down : (r : ℕ) → r ≡ placeRefusal b link room → r ≢ 0 → heard b link kind ids room ≡ refuses b r
-  unfolding heard
+  pub place-down : (r : ℕ) → r ≡ placeRefusal b link room → r ≢ 0 → messageArrival b link kind ids room ≡ refuses b r
+  unfolding messageArrival
   place-down r e h =
       let q = first-given (messageRefusal (b .n) kind ids) (λ z. h (e ∙ z)) in
       unless-refused b _ (λ z. h (e ∙ sym q ∙ z)) ∙ ap (refuses b) (q ∙ sym e)
 
   pub message-down : (r : ℕ) → placeRefusal b link room ≡ 0 → r ≡ messageRefusal (b .n) kind ids → r ≢ 0
-      → heard b link kind ids room ≡ refuses b r
-  unfolding heard
+      → messageArrival b link kind ids room ≡ refuses b r
+  unfolding messageArrival
   message-down r p e h =
       let q = first-none (messageRefusal (b .n) kind ids) p in
       unless-refused b _ (λ z. h (e ∙ sym q ∙ z)) ∙ ap (refuses b) (q ∙ sym e)
 
   pub heard-step : placeRefusal b link room ≡ 0 → messageRefusal (b .n) kind ids ≡ 0
-      → heard b link kind ids room ≡ arrivalStep b (link - 1) (messageIn (b .n) kind ids)
-  unfolding heard
+      → messageArrival b link kind ids room ≡ arrivalStep b (link - 1) (messageIn (b .n) kind ids)
+  unfolding messageArrival
   heard-step p e = unless-passed b _ (first-none _ p ∙ e)
 
 -- ---- the numbers of a message, as the code finds them

@@ -40,13 +40,13 @@ abbrev pub FirstKind : ℕ → Type 0
 FirstKind first = (first ≡ 0) ⊎ (known first ≡ true)
 
 -- to the base and to what it broadcasts; a list that stops it has n identifiers
-pub record Decides (c : Base) (d : Decision) (ids : List ℕ) (k : Done) : Type 0 where
+pub record DecidedAs (c : Base) (d : Decision) (ids : List ℕ) (k : Done) : Type 0 where
   pub done : k ≡ accepts (decidedBase c d) (saidBy (c .n) d ids)
   pub list : d .stops ≡ true → length (take (c .n) (d .«final_list»)) ≡ c .n
   pub first : FirstKind (d .first)
 
 runs-decides : (c : Base) (first sent : ℕ) (ids : List ℕ) (said : List Message) → FirstKind first → firstSaid (c .n) first ids ≡ said
-    → Decides c (runsOn c first sent) ids
+    → DecidedAs c (runsOn c first sent) ids
     (accepts (record {
       n = c .n;
       t = c .t;
@@ -66,7 +66,7 @@ runs-decides c first sent ids said F e = record {
 stops-decides : (c : Base) (first sent state : ℕ) (ids list v : List ℕ) (said : List Message)
     → FirstKind first → firstSaid (c .n) first ids ≡ said
     → list ≡ padTo mostBases v → take (c .n) list ≡ v → length v ≡ c .n
-    → Decides c (stopsWith first sent state list) ids
+    → DecidedAs c (stopsWith first sent state list) ids
     (stops (record { n = c .n; t = c .t; state = c .state; sent = sent; own = c .own; «final_list» = c .«final_list»; links = c .links })
     state v said)
 unfolding decidedBase saidBy lastSaid stopsWith choose stops withState withFinal
@@ -80,7 +80,7 @@ stops-decides c first sent state ids list v said F e p q l = record {
 
 -- ---- the checks
 module _ (c : Base) (first : ℕ) (ids : List ℕ) (said : List Message) (F : FirstKind first) (e : firstSaid (c .n) first ids ≡ said) where
-  pub prime-decides : Decides c (primeDecision c first) ids (primeCheck c said)
+  pub prime-decides : DecidedAs c (primeDecision c first) ids (primeCheck c said)
   unfolding primeCheck primeDecision choose
   prime-decides = go (primeHolds c) refl
     where
@@ -88,7 +88,7 @@ module _ (c : Base) (first : ℕ) (ids : List ℕ) (said : List Message) (F : Fi
       v = sort (certified c)
 
       go : (t : Bool) → primeHolds c ≡ t
-          → Decides c (choose t (stopsWith first (c .sent) 2 (padTo mostBases v)) (runsOn c first (c .sent)))
+          → DecidedAs c (choose t (stopsWith first (c .sent) 2 (padTo mostBases v)) (runsOn c first (c .sent)))
           ids (choose t (stops c 2 v said) (accepts c said))
       go true h =
           let l : length v ≡ c .n = length-sort (certified c) ∙ prime-parts c h .count in
@@ -97,7 +97,7 @@ module _ (c : Base) (first : ℕ) (ids : List ℕ) (said : List Message) (F : Fi
 
   -- on the base with sent set
   pub secondary-decides : (sent : ℕ) → HoldsFirst (c .n) ids → length (take (c .n) ids) ≡ c .n
-      → Decides c (secondaryDecision c first sent ids) ids
+      → DecidedAs c (secondaryDecision c first sent ids) ids
       (secondaryCheck
       (record { n = c .n; t = c .t; state = c .state; sent = sent; own = c .own; «final_list» = c .«final_list»; links = c .links })
       (take (c .n) ids) said)
@@ -108,7 +108,7 @@ module _ (c : Base) (first : ℕ) (ids : List ℕ) (said : List Message) (F : Fi
       x = record { n = c .n; t = c .t; state = c .state; sent = sent; own = c .own; «final_list» = c .«final_list»; links = c .links }
 
       go : (t : Bool)
-          → Decides c (choose t (stopsWith first sent 3 ids) (runsOn c first sent))
+          → DecidedAs c (choose t (stopsWith first sent 3 ids) (runsOn c first sent))
           ids (choose t (stops x 3 (take (c .n) ids) said) (accepts x said))
       go true = stops-decides c first sent 3 ids ids (take (c .n) ids) said F e h refl l
       go false = runs-decides c first sent ids said F e
@@ -121,7 +121,7 @@ record Split (b : Base) (i kind : ℕ) (ids : List ℕ) : Type 0 where
   pub follows : Done
   pub accepted : acceptedOn (b .n) (member (getD ids 0 0) (certified b)) (linkAt b i) kind ids ≡ unlessDiscarded dropped (linkAt b i) after
   pub step : onMessage b i (messageIn (b .n) kind ids) ≡ choose dropped (discards b) follows
-  pub decides : Decides (withLink b i after) (decisionOf (withLink b i after) kind ids) ids follows
+  pub decides : DecidedAs (withLink b i after) (decisionOf (withLink b i after) kind ids) ids follows
 
 first-of-one : (ids : List ℕ) → getD (take 1 ids) 0 0 ≡ getD ids 0 0
 first-of-one [] = refl
@@ -166,7 +166,7 @@ module _ (b : Base) (i : ℕ) (ids : List ℕ) where
         follows = primeCheck c (verify (getD ids 0 0) ∷ []);
         accepted = kind-one _ _ _ _ _ e;
         step = rw (e, first-of-one ids) refl;
-        decides = subst (λ (d : Decision). Decides c d ids (primeCheck c (verify (getD ids 0 0) ∷ []))) (sym (kind-one _ _ _ _ _ e))
+        decides = subst (λ (d : Decision). DecidedAs c d ids (primeCheck c (verify (getD ids 0 0) ∷ []))) (sym (kind-one _ _ _ _ _ e))
             (prime-decides c 2 ids (verify (getD ids 0 0) ∷ []) verify-first (said-verify (b .n) ids));
       }
 
@@ -180,17 +180,17 @@ module _ (b : Base) (i : ℕ) (ids : List ℕ) where
         follows = primeCheck c [];
         accepted = kind-two _ _ _ _ _ e;
         step = rw (e, first-of-one ids) refl;
-        decides = subst (λ (d : Decision). Decides c d ids (primeCheck c [])) (sym (kind-two _ _ _ _ _ e))
+        decides = subst (λ (d : Decision). DecidedAs c d ids (primeCheck c [])) (sym (kind-two _ _ _ _ _ e))
             (prime-decides c 0 ids [] (inl refl) (said-none (b .n) ids));
       }
 
   module _ (h : HoldsFirst (b .n) ids) (l : length (take (b .n) ids) ≡ b .n) where
     -- the vote, then the check
-    vote-decides : (c : Base) → c .n ≡ b .n → Decides c (voteDecision c ids) ids
+    vote-decides : (c : Base) → c .n ≡ b .n → DecidedAs c (voteDecision c ids) ids
         (let d = vote c (take (b .n) ids) in secondaryCheck (d .base) (take (b .n) ids) (d .says))
     unfolding vote voteDecision accepts withSent choose
     vote-decides c n = subst
-        (λ (m : ℕ). Decides c (voteDecision c ids) ids (let d = vote c (take m ids) in secondaryCheck (d .base) (take m ids) (d .says))) n
+        (λ (m : ℕ). DecidedAs c (voteDecision c ids) ids (let d = vote c (take m ids) in secondaryCheck (d .base) (take m ids) (d .says))) n
         (go (votes c (take (c .n) ids)))
       where
         h′ : HoldsFirst (c .n) ids
@@ -199,7 +199,7 @@ module _ (b : Base) (i : ℕ) (ids : List ℕ) where
         l′ : length (take (c .n) ids) ≡ c .n
         l′ = subst (λ (m : ℕ). length (take m ids) ≡ m) (sym n) l
 
-        go : (t : Bool) → Decides c (choose t (secondaryDecision c 4 1 ids) (secondaryDecision c 0 (c .sent) ids)) ids
+        go : (t : Bool) → DecidedAs c (choose t (secondaryDecision c 4 1 ids) (secondaryDecision c 0 (c .sent) ids)) ids
             (let d = choose t (accepts (withSent c) (verifyFinal (take (c .n) ids) ∷ [])) (accepts c []) in
             secondaryCheck (d .base) (take (c .n) ids) (d .says))
         go true = secondary-decides c 4 ids (verifyFinal (take (c .n) ids) ∷ []) vote-first (said-vote (c .n) ids) 1 h′ l′
@@ -217,7 +217,7 @@ module _ (b : Base) (i : ℕ) (ids : List ℕ) where
           accepted = kind-three _ _ _ _ _ e;
           step = rw e (ap (λ (x : Link). choose (eqb (linkAt b i .held) 3) (discards b) (next (withLink b i x)))
               (vector-link (b .n) 3 (linkAt b i) ids h));
-          decides = subst (λ (d : Decision). Decides c d ids (next c)) (sym (kind-three _ _ _ _ _ e)) (vote-decides c refl);
+          decides = subst (λ (d : Decision). DecidedAs c d ids (next c)) (sym (kind-three _ _ _ _ _ e)) (vote-decides c refl);
         }
 
     split-verify-final : {kind : ℕ} → kind ≡ 4 → Split b i kind ids
@@ -232,7 +232,7 @@ module _ (b : Base) (i : ℕ) (ids : List ℕ) where
           accepted = kind-four _ _ _ _ _ e;
           step = rw e (ap (λ (x : Link). choose (not (eqb (linkAt b i .held) 0)) (discards b) (next (withLink b i x)))
               (vector-link (b .n) 4 (linkAt b i) ids h));
-          decides = subst (λ (d : Decision). Decides c d ids (next c)) (sym (kind-four _ _ _ _ _ e))
+          decides = subst (λ (d : Decision). DecidedAs c d ids (next c)) (sym (kind-four _ _ _ _ _ e))
               (secondary-decides c 0 ids [] (inl refl) (said-none (b .n) ids) (c .sent) h l);
         }
 
@@ -273,18 +273,19 @@ unfolded-yes false l after e = (refl, refl)
 module _ (b : Base) (i kind : ℕ)
     (ids : List ℕ) (z : length ids ≡ mostBases) (most : b .n ≤ mostBases) (M : MessageIn (b .n) kind ids) (a : Accepted)
     (p : a ≡ acceptedOn (b .n) (member (getD ids 0 0) (certified b)) (linkAt b i) kind ids) where
-  pub message-discarded : a .accepted ≡ false → onMessage b i (messageIn (b .n) kind ids) ≡ discards b
-  message-discarded e =
+  pub discarded-by-link : a .accepted ≡ false → onMessage b i (messageIn (b .n) kind ids) ≡ discards b
+  discarded-by-link e =
       let S = split-message b i kind ids z most M in
       let q : a ≡ unlessDiscarded (S .dropped) (linkAt b i) (S .after) = p ∙ S .accepted in
       S .step ∙ choose-yes _ _ (unfolded-no (S .dropped) (linkAt b i) (S .after) (sym (ap (λ (x : Accepted). x .accepted) q) ∙ e))
 
-  pub message-accepted : a .accepted ≡ true → let c = withLink b i (a .link) in
-      Decides c (decisionOf c kind ids) ids (onMessage b i (messageIn (b .n) kind ids))
-  message-accepted e =
+  pub accepted-by-link : a .accepted ≡ true → let c = withLink b i (a .link) in
+      DecidedAs c (decisionOf c kind ids) ids (onMessage b i (messageIn (b .n) kind ids))
+  accepted-by-link e =
       let S = split-message b i kind ids z most M in
       let q : a ≡ unlessDiscarded (S .dropped) (linkAt b i) (S .after) = p ∙ S .accepted in
       let y = unfolded-yes (S .dropped) (linkAt b i) (S .after) (sym (ap (λ (x : Accepted). x .accepted) q) ∙ e) in
       let k : S .after ≡ a .link = sym (ap (λ (x : Accepted). x .link) q ∙ y .1) in
-      subst (λ (d : Done). let c = withLink b i (a .link) in Decides c (decisionOf c kind ids) ids d) (sym (S .step ∙ choose-no _ _ (y .0)))
-      (subst (λ (x : Link). Decides (withLink b i x) (decisionOf (withLink b i x) kind ids) ids (S .follows)) k (S .decides))
+      subst (λ (d : Done). let c = withLink b i (a .link) in DecidedAs c (decisionOf c kind ids) ids d)
+      (sym (S .step ∙ choose-no _ _ (y .0)))
+      (subst (λ (x : Link). DecidedAs (withLink b i x) (decisionOf (withLink b i x) kind ids) ids (S .follows)) k (S .decides))

@@ -1,7 +1,7 @@
 -- `engine::settle::settle` meets its contract: the message is discarded, or the link holds it, the base decides, and the frames are
 -- those of what it says.
 use Rattle.engine.specs.Settling.Frames.{said-does, said-room}
-use Rattle.engine.specs.Settling.Laws.{Decides, message-discarded, message-accepted}
+use Rattle.engine.specs.Settling.Laws.{DecidedAs, discarded-by-link, accepted-by-link}
 use Rattle.engine.specs.Settling.{decidedBase}
 use Rattle.deciding.specs.Deciding.{decisionOf}
 use Rattle.deciding.specs.declared.Decision.{Decision}
@@ -49,7 +49,7 @@ returns c =
     let z : length (a .t4) ≡ mostBases = s .good .1 .1 .1 .0 .1 .0 .1 in
     let e = c .before .before .before .accept .ensures ∙ ap (λ (t : Bool).
     acceptedOn (a .t1 .n) t (linkAt (a .t1) (a .i)) (a .kind) (a .t4)) (c .before .before .before .before .certifies .ensures) in
-    does-as (message-discarded b (a .i) (a .kind) (a .t4) z (s .pre .0 .net .most) (s .pre .1 .0) _ e (not-true _ (c .before .if1 .taken)))
+    does-as (discarded-by-link b (a .i) (a .kind) (a .t4) z (s .pre .0 .net .most) (s .pre .1 .0) _ e (not-true _ (c .before .if1 .taken)))
     (discards-does b _ (c .discarded .ensures))
 
 running-with-requires : tie.Need-running-with-requires
@@ -79,8 +79,8 @@ returns-2 c =
     let f : D ≡ decisionOf x (a .kind) (a .t4) = c .before .before .before .before .before .decide .ensures
     ∙ ap (λ (y : Base). decisionOf y (a .kind) (a .t4)) (c .before .before .before .before .before .before .running-with .ensures) in
     let m = onMessage b (a .i) (messageIn (a .t1 .n) (a .kind) (a .t4)) in
-    let K = subst (λ (d : Decision). Decides x d (a .t4) m) (sym f)
-    (message-accepted b (a .i) (a .kind) (a .t4) z (s .pre .0 .net .most)
+    let K = subst (λ (d : Decision). DecidedAs x d (a .t4) m) (sym f)
+    (accepted-by-link b (a .i) (a .kind) (a .t4) z (s .pre .0 .net .most)
     (s .pre .1 .0) _ e (not-false _ (c .before .before .before .before .before .before .before .before .if1 .left))) in
     does-as (K .done)
     (said-does (a .t1) x D (a .t4) (a .out .now) (K .first) (omega (arith, s .pre .0 .net .least)) (s .pre .0 .net .most) z (K .list)
