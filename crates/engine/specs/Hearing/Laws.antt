@@ -26,12 +26,12 @@ use Rattle.engine.specs.Settling.{Ready}
 use Rattle.engine.specs.Hearing.{messageRefusal, messageArrival}
 
 -- ---- what numbers 1 to 6 leave
-pub record Admitted (b : Base) (link room : ℕ) : Type 0 where
+pub record PlacePassed (b : Base) (link room : ℕ) : Type 0 where
   pub ready : Ready b (link - 1)
   pub some : 1 ≤ link
   pub wide : outputRoom ≤ room
 
-pub place-passed : (b : Base) (link room : ℕ) → placeRefusal b link room ≡ 0 → Admitted b link room
+pub place-passed : (b : Base) (link room : ℕ) → placeRefusal b link room ≡ 0 → PlacePassed b link room
 unfolding placeRefusal
 place-passed b link room e =
     let p = first-passed _ _ e in
