@@ -1,12 +1,7 @@
-// One base's agreement engine: a start, and an arrival on a link. A record goes in by value and comes back beside the answer;
-// frames go into the output that is lent, one after another.
-mod announce;
+// One base's agreement engine: a start, an arrival on a link, a message that was read. A record goes in by value, and what is to be
+// changed in it comes back beside the answer; frames go into the output that is lent, one after another.
 pub mod arrival;
-mod begin;
-mod correct_final;
-mod message;
-mod say;
+pub mod changes;
+mod settle;
 pub mod start;
-mod stop;
-mod verify;
-mod verify_final;
+mod step;

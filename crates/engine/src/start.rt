@@ -1,10 +1,7 @@
-// The start call.
-use crate::begin::begin;
-use answers::discarded;
-use answers::refused;
+// The start call, with the record after it.
+use change::changed;
 use protocol::Base;
 use protocol::Step;
-use soundness::refusals::start_refusal;
 ghost use mathlib.Core.Path.{_≡_};
 ghost use lib.ListN.{length};
 ghost use Rattle.protocol.specs.Steps.{stepOf, outputOf};
@@ -15,12 +12,11 @@ pub fn start(base: Base, out: &mut [u8]) -> Step
     ensures { λ r. ⌜ (r ≡ stepOf (Steps.start base (length (now (out .entry)))))
         × (now (out .exit) ≡ outputOf (Steps.start base (length (now (out .entry)))) (now (out .entry))) ⌝ }
 {
-    let refusal = start_refusal(base, out.len());
-    if refusal != 0 {
-        return refused(base, refusal);
+    let change = crate::changes::start(base, out);
+    let outcome = change.outcome;
+    let next = changed(base, change);
+    Step {
+        outcome,
+        base: next,
     }
-    if base.state != 0 {
-        return discarded(base);
-    }
-    begin(base, out)
 }

@@ -1,0 +1,36 @@
+-- The frames that a call broadcasts, as bytes, by what an output has room for; and the answers with their lengths.
+use Prim.Native.Nat.{ℕ, _-_}
+use mathlib.Core.Bool.{Bool}
+use mathlib.Core.List.{List, []}
+use lib.Dec.{eqb, leb}
+use lib.ListN.{length, take}
+use Rattle.limits.specs.Limits.{mostBases}
+use Rattle.lists.specs.Choice.{choose, and}
+use Rattle.frame.specs.Message.{expected}
+use Rattle.frame.specs.Encoding.{frameOf}
+use Rattle.writer.specs.Writing.{frameFits}
+use Rattle.protocol.specs.declared.Outcome.{Outcome}
+use Rattle.protocol.specs.declared.Outcome.the-variants.{Accepted, Discarded, Refused}
+pub mod Laws
+
+-- the frame of a kind and the first identifiers of an array, where there is room for it; else nothing
+unfoldable pub frameIn : ℕ → ℕ → List ℕ → ℕ → List ℕ
+frameIn n kind ids room =
+    choose (and (leb (expected kind n) mostBases) (frameFits n kind (expected kind n) room))
+    (frameOf kind (take (expected kind n) ids))
+    []
+
+-- the Correct-Final of a base that stops, behind the frame of the first kind
+unfoldable pub lastFrame : ℕ → ℕ → List ℕ → Bool → List ℕ → ℕ → List ℕ
+lastFrame n first ids stops list room = choose stops (frameIn n 3 list (room - length (frameIn n first ids room))) []
+
+-- accepted, with the lengths of at most two frames, zero for none
+unfoldable pub acceptedWith : ℕ → ℕ → Outcome
+acceptedWith x y = choose (eqb x 0) (Accepted y 0 0) (Accepted x y 0)
+
+-- "An idle base starts first": the answer of a first message, behind the two frames of the start. A running base's message that is
+-- its first broadcasts at most one frame.
+unfoldable pub behindStart : ℕ → ℕ → Outcome → Outcome
+behindStart x y (Accepted a b c) = Accepted x y a
+behindStart x y (Discarded a b c) = Discarded x y a
+behindStart x y (Refused r) = Refused r

@@ -1,0 +1,96 @@
+// The frames that a call broadcasts, one behind another at the front of an output, and the answer with their lengths.
+use frame::kind::CORRECT_FINAL;
+use frame::kind::Shape;
+use frame::kind::shape_of;
+use limits::MOST_BASES;
+use protocol::Outcome;
+use writer::put;
+ghost use mathlib.Core.Path.{_≡_};
+ghost use mathlib.Core.List.{_++_};
+ghost use Prim.Native.Nat.{_≤_};
+ghost use lib.ListN.{length};
+ghost use Rattle.frame.specs.Encoding.{over};
+ghost use Rattle.broadcasting.specs.Broadcasting.{frameIn, lastFrame, acceptedWith, behindStart};
+
+// The frame of a kind and as many identifiers of an array as the kind holds. Nothing is written, length 0, for a kind that there is
+// not, for more identifiers than the array has, and where the output has no room.
+fn say(kind: u8, n: u8, ids: [u32; MOST_BASES], out: &mut [u8]) -> usize
+    ensures { λ r. ⌜ (r ≡ length (frameIn n kind ids (length (now (out .entry)))))
+        × (now (out .exit) ≡ over (frameIn n kind ids (length (now (out .entry)))) (now (out .entry))) ⌝ }
+{
+    let Shape::Known { count, length: _ } = shape_of(kind, n) else {
+        return 0;
+    };
+    if MOST_BASES < count {
+        return 0;
+    }
+    put(kind, n, &ids[..count], out)
+}
+
+fn accepted(first: usize, second: usize) -> Outcome
+    ensures { λ r. ⌜ r ≡ acceptedWith first second ⌝ }
+{
+    if first == 0 {
+        return Outcome::Accepted {
+            first: second,
+            second: 0,
+            third: 0,
+        };
+    }
+    Outcome::Accepted {
+        first,
+        second,
+        third: 0,
+    }
+}
+
+// What a base broadcasts that has accepted a message: a frame of the first kind, none for zero, of the message's identifiers, and a
+// Correct-Final of its final list where it stops.
+pub fn broadcast(
+    n: u8,
+    first: u8,
+    ids: [u32; MOST_BASES],
+    stops: bool,
+    list: [u32; MOST_BASES],
+    out: &mut [u8],
+) -> Outcome
+    ensures { λ r. ⌜ (r ≡ acceptedWith (length (frameIn n first ids (length (now (out .entry)))))
+        (length (lastFrame n first ids stops list (length (now (out .entry))))))
+        × (now (out .exit) ≡ over
+        (frameIn n first ids (length (now (out .entry))) ++ lastFrame n first ids stops list (length (now (out .entry))))
+        (now (out .entry))) ⌝ }
+{
+    let front = say(first, n, ids, out);
+    if !stops {
+        return accepted(front, 0);
+    }
+    let back = say(CORRECT_FINAL, n, list, &mut out[front..]);
+    accepted(front, back)
+}
+
+// The answer of a first message, behind the two frames of the start.
+pub fn behind_start(announce: usize, verify: usize, outcome: Outcome) -> Outcome
+    ensures { λ r. ⌜ r ≡ behindStart announce verify outcome ⌝ }
+{
+    match outcome {
+        Outcome::Accepted {
+            first,
+            second: _,
+            third: _,
+        } => Outcome::Accepted {
+            first: announce,
+            second: verify,
+            third: first,
+        },
+        Outcome::Discarded {
+            first,
+            second: _,
+            third: _,
+        } => Outcome::Discarded {
+            first: announce,
+            second: verify,
+            third: first,
+        },
+        Outcome::Refused(number) => Outcome::Refused(number),
+    }
+}

@@ -1,0 +1,15 @@
+-- `change::discarded` meets its contract.
+use Rattle.protocol.specs.Steps.{discards, outcomeOf, lengths}
+use borrow.Author.Needs.{needs}
+use Rattle.change.proofs.discarded.Statement.{statement}
+use Rattle.change.proofs.discarded.Tie as tie
+
+only-state-requires : tie.Need-only-state-requires
+only-state-requires c κs = search needs
+
+returns : tie.Need-returns
+unfolding discards outcomeOf lengths
+returns c = record { outcome = c .only-state .ensures .0; base = c .only-state .ensures .1 }
+
+pub discarded-spec : {M : Type 1} → statement M
+discarded-spec = tie.close (tie.spec only-state-requires returns)

@@ -1,0 +1,93 @@
+// What a base does once it has accepted a message: the vote, the prime check, the secondary check.
+use checks::is_prime;
+use checks::is_secondary;
+use checks::is_vote;
+use frame::kind::ANNOUNCE;
+use frame::kind::CORRECT_FINAL;
+use frame::kind::VERIFY;
+use frame::kind::VERIFY_FINAL;
+use limits::MOST_BASES;
+use protocol::Base;
+use protocol::PRIME;
+use protocol::SECONDARY;
+use sorting::certified_sorted;
+ghost use mathlib.Core.Path.{_≡_};
+ghost use Rattle.deciding.specs.Deciding.{primeDecision, secondaryDecision, voteDecision, decisionOf, runsOn};
+
+// The kind of the frame that is broadcast before the check, zero for none; whether a Verify-Final was sent; whether the check stops
+// the base, and its state and final list then.
+pub struct Decision {
+    pub first: u8,
+    pub sent: u8,
+    pub stops: bool,
+    pub state: u8,
+    pub final_list: [u32; MOST_BASES],
+}
+
+fn runs_on(base: Base, first: u8, sent: u8) -> Decision
+    ensures { λ r. ⌜ r ≡ runsOn base first sent ⌝ }
+{
+    let list = base.final_list;
+    Decision {
+        first,
+        sent,
+        stops: false,
+        state: base.state,
+        final_list: list,
+    }
+}
+
+fn prime_decision(base: Base, first: u8) -> Decision
+    ensures { λ r. ⌜ r ≡ primeDecision base first ⌝ }
+{
+    if !is_prime(base) {
+        return runs_on(base, first, base.sent);
+    }
+    let list = certified_sorted(base);
+    Decision {
+        first,
+        sent: base.sent,
+        stops: true,
+        state: PRIME,
+        final_list: list,
+    }
+}
+
+// On the first n identifiers of v.
+fn secondary_decision(base: Base, first: u8, sent: u8, v: [u32; MOST_BASES]) -> Decision
+    ensures { λ r. ⌜ r ≡ secondaryDecision base first sent v ⌝ }
+{
+    if !is_secondary(base, v) {
+        return runs_on(base, first, sent);
+    }
+    Decision {
+        first,
+        sent,
+        stops: true,
+        state: SECONDARY,
+        final_list: v,
+    }
+}
+
+// The vote, then the secondary check.
+fn vote_decision(base: Base, v: [u32; MOST_BASES]) -> Decision
+    ensures { λ r. ⌜ r ≡ voteDecision base v ⌝ }
+{
+    if is_vote(base, v) {
+        return secondary_decision(base, VERIFY_FINAL, 1, v);
+    }
+    secondary_decision(base, 0, base.sent, v)
+}
+
+// Of a base that has accepted a message of a kind and its identifiers.
+pub fn decide(base: Base, kind: u8, ids: [u32; MOST_BASES]) -> Decision
+    ensures { λ r. ⌜ r ≡ decisionOf base kind ids ⌝ }
+{
+    match kind {
+        ANNOUNCE => prime_decision(base, VERIFY),
+        VERIFY => prime_decision(base, 0),
+        CORRECT_FINAL => vote_decision(base, ids),
+        VERIFY_FINAL => secondary_decision(base, 0, base.sent, ids),
+        _ => runs_on(base, 0, base.sent),
+    }
+}

@@ -1,0 +1,106 @@
+-- A message that was read: what its numbers leave, and what the call does by them.
+use Prim.Native.Nat.{ℕ, _-_, _≤_}
+use mathlib.Core.Path.{_≡_, refl, sym, ap, _∙_}
+use mathlib.Core.Logic.{_≢_}
+use mathlib.Core.Bool.{Bool, true, false}
+use mathlib.Core.List.{List, _++_}
+use native.Mathlib.Omega.{arith}
+use lib.ListN.{length, take, drop, replicate, length-drop, take-append-drop}
+use lib.Seq.{length-take-le}
+use Rattle.limits.specs.Limits.{mostBases, outputRoom}
+use Rattle.lists.specs.Choice.{choose, first}
+use Rattle.lists.specs.Choice.Laws.{choose-yes, choose-no, choose-ind, first-none, first-given, first-passed}
+use Rattle.lists.specs.Lists.{zeros, padTo}
+use Rattle.lists.specs.Lists.Zeros.{zeros-are}
+use Rattle.frame.specs.Message.{known, expected, holdsOne}
+use Rattle.frame.specs.Message.Laws.{expected-range}
+use Rattle.frame.specs.Reading.{kindRefusal, listRefusal}
+use Rattle.frame.specs.Reading.Laws.{kind-passed, kind-passes, kind-unknown}
+use Rattle.protocol.specs.declared.Base.{Base}
+use Rattle.protocol.specs.Sound.{recordRefusal}
+use Rattle.protocol.specs.Steps.{refuses, linkRefusal, outputRefusal, arrivalStep}
+use Rattle.protocol.specs.Steps.Refusals.{unless-passed, unless-refused, link-passed, output-passed}
+use Rattle.soundness.specs.Place.{placeRefusal}
+use Rattle.change.specs.Heard.{HoldsFirst, MessageIn, messageIn}
+use Rattle.engine.specs.Settling.{Ready}
+use Rattle.engine.specs.Hearing.{messageRefusal, messageArrival}
+
+-- ---- what numbers 1 to 6 leave
+pub record PlacePassed (b : Base) (link room : ℕ) : Type 0 where
+  pub ready : Ready b (link - 1)
+  pub some : 1 ≤ link
+  pub wide : outputRoom ≤ room
+
+pub place-passed : (b : Base) (link room : ℕ) → placeRefusal b link room ≡ 0 → PlacePassed b link room
+unfolding placeRefusal
+place-passed b link room e =
+    let p = first-passed _ _ e in
+    let q = first-passed _ _ (p .1) in
+    let l = link-passed (b .n) link (q .0) in
+    record { ready = record { refusal = p .0; here = omega (arith, l) }; some = l .0; wide = output-passed room (q .1) }
+
+-- ---- what 8, 9, 11 and 12 leave
+zeros-behind : (ids : List ℕ) (k : ℕ) → length ids ≡ mostBases → k ≤ mostBases → zeros (drop k ids) ≡ true → HoldsFirst k ids
+unfolding padTo
+zeros-behind ids k l h z =
+    let t = length-take-le k ids (omega arith) in
+    let e : length (drop k ids) ≡ mostBases - length (take k ids) = omega (arith, length-drop k ids, t) in
+    sym (take-append-drop k ids)
+    ∙ ap (λ (s : List ℕ). take k ids ++ s) (zeros-are (drop k ids) z ∙ ap (λ (m : ℕ). replicate m 0) e)
+
+behind-zero : (t : Bool) (r : ℕ) → choose t r 9 ≡ 0 → t ≡ true
+unfolding choose
+behind-zero true r e = refl
+behind-zero false r e = absurd (omega arith)
+
+pub message-passed : (n kind : ℕ) (ids : List ℕ) → 1 ≤ n → n ≤ mostBases → length ids ≡ mostBases → messageRefusal n kind ids ≡ 0
+    → MessageIn n kind ids
+unfolding messageRefusal
+message-passed n kind ids some most l e =
+    let p = first-passed _ _ e in record {
+      known = kind-passed n kind (expected kind n) (p .0) .0;
+      holds = zeros-behind ids (expected kind n) l (expected-range kind n mostBases some most .1) (behind-zero _ _ (p .1));
+    }
+
+-- ---- the call
+module _ (b : Base) (link kind : ℕ) (ids : List ℕ) (room : ℕ) where
+  pub place-down : (r : ℕ) → r ≡ placeRefusal b link room → r ≢ 0 → messageArrival b link kind ids room ≡ refuses b r
+  unfolding messageArrival
+  place-down r e h =
+      let q = first-given (messageRefusal (b .n) kind ids) (λ z. h (e ∙ z)) in
+      unless-refused b _ (λ z. h (e ∙ sym q ∙ z)) ∙ ap (refuses b) (q ∙ sym e)
+
+  pub message-down : (r : ℕ) → placeRefusal b link room ≡ 0 → r ≡ messageRefusal (b .n) kind ids → r ≢ 0
+      → messageArrival b link kind ids room ≡ refuses b r
+  unfolding messageArrival
+  message-down r p e h =
+      let q = first-none (messageRefusal (b .n) kind ids) p in
+      unless-refused b _ (λ z. h (e ∙ sym q ∙ z)) ∙ ap (refuses b) (q ∙ sym e)
+
+  pub heard-step : placeRefusal b link room ≡ 0 → messageRefusal (b .n) kind ids ≡ 0
+      → messageArrival b link kind ids room ≡ arrivalStep b (link - 1) (messageIn (b .n) kind ids)
+  unfolding messageArrival
+  heard-step p e = unless-passed b _ (first-none _ p ∙ e)
+
+-- ---- the numbers of a message, as the code finds them
+pub few : (kind n : ℕ) → n ≤ mostBases → expected kind n ≤ mostBases
+unfolding expected
+few kind n h = choose-ind (λ (k : ℕ). k ≤ mostBases) (holdsOne kind) (λ _. omega arith) (λ _. h)
+
+module _ (n kind : ℕ) (ids : List ℕ) where
+  pub message-unknown : known kind ≡ false → 8 ≡ messageRefusal n kind ids
+  unfolding messageRefusal
+  message-unknown e = let k = kind-unknown n kind (expected kind n) e in sym (first-given _ (λ z. absurd (omega (arith, sym k ∙ z))) ∙ k)
+
+  module _ (count : ℕ) (e : known kind ≡ true) (k : count ≡ expected kind n) where
+    pub message-behind : zeros (drop count ids) ≡ false → 9 ≡ messageRefusal n kind ids
+    unfolding messageRefusal
+    message-behind z = sym (first-none _ (kind-passes n kind (expected kind n) e refl)
+        ∙ choose-no _ _ (ap (λ (m : ℕ). zeros (drop m ids)) (sym k) ∙ z))
+
+  pub message-list : (count r : ℕ)
+      → known kind ≡ true → count ≡ expected kind n → zeros (drop count ids) ≡ true → r ≡ listRefusal (take count ids)
+      → r ≡ messageRefusal n kind ids
+  unfolding messageRefusal
+  message-list count r e k z p = p ∙ ap (λ (m : ℕ). listRefusal (take m ids)) k
+      ∙ sym (first-none _ (kind-passes n kind (expected kind n) e refl) ∙ choose-yes _ _ (ap (λ (m : ℕ). zeros (drop m ids)) (sym k) ∙ z))
