@@ -18,16 +18,8 @@ use text::number::Number;
 ghost use mathlib.Core.Path.{_≡_};
 ghost use Prim.Native.Nat.{suc, _+_, _≤_};
 ghost use Rattle.limits.specs.Refusals.{sizeRefusal};
-ghost use Rattle.replay.specs.State.{
-  mostLines,
-  netState,
-  idState,
-  idStates,
-  markedState,
-  faultyState,
-  repeatState,
-  headerState,
-};
+ghost use Rattle.schedule.specs.Walk.{netStep, idStep, idSteps, markStep, faultyStep, repeat, headerWalk};
+ghost use Rattle.replay.specs.State.{mostLines, replaying, unreadState};
 
 // Numbers 1 and 2, 0 for none.
 fn size_refusal(n: u32, t: u32) -> u8
@@ -45,7 +37,7 @@ fn size_refusal(n: u32, t: u32) -> u8
 
 // `net n t`
 fn net_step(s: &[u8]) -> ReplayState
-    ensures { λ r. ⌜ r ≡ netState (now (s .entry)) ⌝ }
+    ensures { λ r. ⌜ r ≡ netStep replaying (now (s .entry)) unreadState ⌝ }
 {
     let Two::Both(n, t, next) = net_line(s, 0) else {
         return refuse(unread(), 13);
@@ -60,7 +52,7 @@ fn net_step(s: &[u8]) -> ReplayState
 // `id b v`
 fn id_step(s: &[u8], b: u8, state: ReplayState) -> ReplayState
     requires { ⌜ state .line ≤ mostLines ⌝ }
-    ensures { λ r. ⌜ r ≡ idState (now (s .entry)) b state ⌝ }
+    ensures { λ r. ⌜ r ≡ idStep replaying (now (s .entry)) b state ⌝ }
 {
     if state.refusal != 0 {
         return state;
@@ -80,7 +72,7 @@ fn id_step(s: &[u8], b: u8, state: ReplayState) -> ReplayState
 // `id b v` for b = 1 to n
 fn id_steps(s: &[u8], n: u8, first: ReplayState) -> ReplayState
     requires { ⌜ first .line ≤ 2 ⌝ }
-    ensures { λ r. ⌜ r ≡ idStates (now (s .entry)) n first ⌝ }
+    ensures { λ r. ⌜ r ≡ idSteps replaying (now (s .entry)) n first ⌝ }
 {
     let mut state = first;
     let mut b: u8 = 0;
@@ -94,7 +86,7 @@ fn id_steps(s: &[u8], n: u8, first: ReplayState) -> ReplayState
 // The link between a and b is faulty, if one more may be.
 fn mark_faulty(state: ReplayState, a: u8, b: u8, next: usize) -> ReplayState
     requires { ⌜ state .line ≤ mostLines ⌝ }
-    ensures { λ r. ⌜ r ≡ markedState state a b next ⌝ }
+    ensures { λ r. ⌜ r ≡ markStep replaying a b next state ⌝ }
 {
     let net = state.net;
     let faulty = net.faulty;
@@ -111,7 +103,7 @@ fn mark_faulty(state: ReplayState, a: u8, b: u8, next: usize) -> ReplayState
 // `faulty a b`, if that is the next line
 fn faulty_step(s: &[u8], state: ReplayState) -> ReplayState
     requires { ⌜ state .line ≤ mostLines ⌝ }
-    ensures { λ r. ⌜ r ≡ faultyState (now (s .entry)) state ⌝ }
+    ensures { λ r. ⌜ r ≡ faultyStep replaying (now (s .entry)) state ⌝ }
 {
     if state.refusal != 0 {
         return state;
@@ -127,7 +119,7 @@ fn faulty_step(s: &[u8], state: ReplayState) -> ReplayState
 // As many lines as there may be, and one more
 fn faulty_steps(s: &[u8], t: u8, first: ReplayState) -> ReplayState
     requires { ⌜ first .line ≤ 258 ⌝ }
-    ensures { λ r. ⌜ r ≡ repeatState (suc t) (faultyState (now (s .entry))) first ⌝ }
+    ensures { λ r. ⌜ r ≡ repeat (suc t) (faultyStep replaying (now (s .entry))) first ⌝ }
 {
     let most = (t as usize) + 1;
     let mut state = first;
@@ -140,7 +132,7 @@ fn faulty_steps(s: &[u8], t: u8, first: ReplayState) -> ReplayState
 }
 
 pub(crate) fn read_header(s: &[u8]) -> ReplayState
-    ensures { λ r. ⌜ r ≡ headerState (now (s .entry)) ⌝ }
+    ensures { λ r. ⌜ r ≡ headerWalk replaying (now (s .entry)) ⌝ }
     ensures { λ r. ⌜ r .line ≤ 600 ⌝ }
 {
     let sized = net_step(s);

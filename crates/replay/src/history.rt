@@ -14,7 +14,8 @@ ghost use Rattle.limits.specs.Limits.{mostBases, longestForgery};
 ghost use Rattle.text.specs.Hex.{hexBytes};
 ghost use Rattle.net.specs.Abstraction.{pairsOf};
 ghost use Rattle.events.specs.Events.{forgedTo};
-ghost use Rattle.replay.specs.State.{HasBytes, nextOf, nextState, repeatState};
+ghost use Rattle.schedule.specs.Walk.{nextLine, repeat};
+ghost use Rattle.replay.specs.State.{HasBytes, nextOf, replaying};
 ghost use Rattle.replay.specs.Turn.{senderOf, receiverOf, nodePlace, reachedBy};
 
 // A forgery whose bytes stand in the schedule.
@@ -151,7 +152,7 @@ fn receiver_place(line: Line) -> usize
 // Every line, up to the text's end or the first that is turned down. A line changes one base in its place, so that the net is not copied.
 pub(crate) fn read_history(s: &[u8], first: ReplayState) -> ReplayState
     requires { ⌜ (first .line ≤ 600) × (first .refusal ≡ 0 → first .net .n ≤ mostBases) ⌝ }
-    ensures { λ r. ⌜ r ≡ repeatState (length (now (s .entry))) (nextState (now (s .entry))) first ⌝ }
+    ensures { λ r. ⌜ r ≡ repeat (length (now (s .entry))) (nextLine replaying (now (s .entry))) first ⌝ }
 {
     if first.refusal != 0 {
         return first;
@@ -159,16 +160,7 @@ pub(crate) fn read_history(s: &[u8], first: ReplayState) -> ReplayState
     let mut net = first.net;
     let mut at = first.at;
     let mut number = first.line;
-    let mut k: usize = 0;
-    while k < s.len() {
-        if s.len() <= at {
-            return ReplayState {
-                net,
-                at,
-                line: number,
-                refusal: 0,
-            };
-        }
+    while at < s.len() {
         let line = event_line(net.n, s, at);
         let from = sender_place(line);
         let to = receiver_place(line);
@@ -189,7 +181,6 @@ pub(crate) fn read_history(s: &[u8], first: ReplayState) -> ReplayState
         net.nodes[to] = node;
         at = next_of(line);
         number += 1;
-        k += 1;
     }
     ReplayState {
         net,

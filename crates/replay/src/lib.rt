@@ -17,14 +17,15 @@ ghost use mathlib.Core.Path.{_≡_};
 ghost use Prim.Native.Nat.{_≤_};
 ghost use lib.ListN.{length};
 ghost use Rattle.schedule.specs.Report.{replayLength, replayOutput};
-ghost use Rattle.replay.specs.State.{wholeState};
+ghost use Rattle.schedule.specs.Walk.{walk};
+ghost use Rattle.replay.specs.State.{replaying};
 
 // Room for any report.
 pub const REPORT_ROOM: usize = (MOST_BASES + 1) * LINE_ROOM;
 
 // A schedule, read to its end or to the first line that is turned down.
 fn read_whole(schedule: &[u8]) -> ReplayState
-    ensures { λ r. ⌜ r ≡ wholeState (now (schedule .entry)) ⌝ }
+    ensures { λ r. ⌜ r ≡ walk replaying (now (schedule .entry)) ⌝ }
 {
     if LONGEST_SCHEDULE < schedule.len() {
         return refuse(unread(), 13);

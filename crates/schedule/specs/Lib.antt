@@ -1,4 +1,6 @@
 pub mod Header
+pub mod Walk
 pub mod Meaning
+pub mod Simulation
 pub mod Report
 pub mod Theorem

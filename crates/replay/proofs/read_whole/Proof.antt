@@ -8,7 +8,8 @@ use denote.Ref.{now}
 use Rattle.limits.specs.Limits.{mostBases}
 use Rattle.lists.specs.Choice.Laws.{chosen-yes, chosen-no}
 use Rattle.replay.specs.declared.state.ReplayState.{ReplayState}
-use Rattle.replay.specs.State.{refusedState, nextState, repeatState, wholeState}
+use Rattle.schedule.specs.Walk.{linesWalk, nextLine, repeat, walk}
+use Rattle.replay.specs.State.{refusedState, replaying}
 use Rattle.replay.specs.Follows.{header-few}
 use Rattle.replay.proofs.read_whole.Statement.{statement}
 use Rattle.replay.proofs.read_whole.Tie as tie
@@ -20,7 +21,7 @@ refuse-requires : tie.Need-refuse-requires
 refuse-requires c κs = search needs
 
 returns : tie.Need-returns
-unfolding wholeState
+unfolding walk
 returns c =
     chosen-yes _ (lt-ltb _ _ (c .before .before .if1 .taken)) (c .refuse .ensures ∙ ap (refusedState 13) (c .before .unread .ensures))
 
@@ -35,10 +36,10 @@ read-history-requires c κs = (
 )
 
 returns-2 : tie.Need-returns-2
-unfolding wholeState
+unfolding walk linesWalk
 returns-2 c = let s = now (c .before .before .before .before .args .schedule) in
     chosen-no _ (le-ltb _ _ (c .before .before .if1 .left))
-    (c .read-history .ensures ∙ ap (λ (p : ReplayState). repeatState (length s) (nextState s) p) (c .before .read-header .ensures .0))
+    (c .read-history .ensures ∙ ap (λ (p : ReplayState). repeat (length s) (nextLine replaying s) p) (c .before .read-header .ensures .0))
 
 pub read-whole-spec : {M : Type 1} → statement M
 read-whole-spec =

@@ -21,20 +21,10 @@ use Rattle.protocol.specs.Net.{Net, Pair, good, replaced}
 use Rattle.protocol.specs.Agreement.{BaseOf, Setting, Fresh}
 use Rattle.protocol.specs.Agreement.Premise.{idleNet, idle-fresh}
 use Rattle.schedule.specs.Header.{owned, idRefusal, faultyRefusal}
-use Rattle.schedule.specs.Meaning.{
-  Progress,
-  unread,
-  onward,
-  withSize,
-  withId,
-  withFaulty,
-  netStep,
-  idStep,
-  idSteps,
-  faultyStep,
-  header,
-}
-use Rattle.schedule.specs.Meaning.Laws.{Unrefused, refuse-owes, judged-owes, unless-owes, repeat-ind}
+use Rattle.schedule.specs.Walk.{headerWalk, markStep, netStep, idStep, idSteps, faultyStep}
+use Rattle.schedule.specs.Meaning.{Progress, unread, onward, withSize, withId, withFaulty, header, scheduled}
+use Rattle.schedule.specs.Meaning.Laws.{Unrefused, refuse-owes, judged-owes, unless-owes}
+use Rattle.schedule.specs.Walk.Laws.{repeat-ind}
 
 -- the bases 1 to k have identifiers of 32 bits above zero, different at each
 pub record Named (k : ℕ) (id : ℕ → ℕ) : Type 0 where
@@ -65,7 +55,7 @@ sized-begins n t next size limit = record {
   net = refl;
 }
 
-pub net-begins : (s : List ℕ) → Unrefused (Begins 0) (netStep s unread)
+pub net-begins : (s : List ℕ) → Unrefused (Begins 0) (netStep scheduled s unread)
 unfolding netStep
 net-begins s =
     two-ind (Unrefused (Begins 0)) (netLine s (unread .at))
@@ -186,7 +176,7 @@ named-begins m k v next st l word e g =
     )
 
 id-begins : (s : List ℕ) (m k : ℕ) (st : Progress)
-    → suc k ≤ m → Unrefused (Given m k) st → Unrefused (Given m (suc k)) (idStep s (suc k) st)
+    → suc k ≤ m → Unrefused (Given m k) st → Unrefused (Given m (suc k)) (idStep scheduled s (suc k) st)
 unfolding idStep
 id-begins s m k st l before =
     unless-owes (Given m (suc k)) st _ (λ none.
@@ -195,10 +185,10 @@ id-begins s m k st l before =
     (λ v next f. judged-owes (Given m (suc k)) (idRefusal (st .net) v) st (withId (suc k) v (onward next st))
     (λ e _. named-begins m k v next st l (omega (arith, f .0)) e (before none))))
 
-ids-begin : (s : List ℕ) (m k : ℕ) (st : Progress) → k ≤ m → Unrefused (Given m 0) st → Unrefused (Given m k) (idSteps s k st)
+ids-begin : (s : List ℕ) (m k : ℕ) (st : Progress) → k ≤ m → Unrefused (Given m 0) st → Unrefused (Given m k) (idSteps scheduled s k st)
 unfolding idSteps
 ids-begin s m zero st l before = before
-ids-begin s m (suc k) st l before = id-begins s m k (idSteps s k st) l (ids-begin s m k st (omega arith) before)
+ids-begin s m (suc k) st l before = id-begins s m k (idSteps scheduled s k st) l (ids-begin s m k st (omega arith) before)
 
 -- ---- `faulty a b`
 -- every base has its identifier
@@ -220,27 +210,32 @@ marked-begins a b next st e B = record {
   net = B .net;
 }
 
-pub faulty-begins : (s : List ℕ) (st : Progress) → Unrefused Whole st → Unrefused Whole (faultyStep s st)
+mark-begins : (a b next : ℕ) (st : Progress) → Whole st → Unrefused Whole (markStep scheduled a b next st)
+unfolding markStep
+mark-begins a b next st B =
+    choose-ind (Unrefused Whole) (not (good (st .faulty) a b)) (λ _. refuse-owes Whole 13 st (λ e. omega arith))
+    (λ _. judged-owes Whole (faultyRefusal (st .t) (st .faulty)) st (withFaulty a b (onward next st))
+    (λ e _. marked-begins a b next st e B))
+
+pub faulty-begins : (s : List ℕ) (st : Progress) → Unrefused Whole st → Unrefused Whole (faultyStep scheduled s st)
 unfolding faultyStep
 faulty-begins s st before =
     unless-owes Whole st _ (λ none.
     two-ind (Unrefused Whole) (faultyLine (st .n) s (st .at)) (FaultyTold (st .n) (st .at)) (faulty-told (st .n) s (st .at)) before
-    (λ a b next f. choose-ind (Unrefused Whole) (not (good (st .faulty) a b)) (λ _. refuse-owes Whole 13 st (λ e. omega arith))
-    (λ _. judged-owes Whole (faultyRefusal (st .t) (st .faulty))
-    st (withFaulty a b (onward next st)) (λ e _. marked-begins a b next st e (before none)))))
+    (λ a b next _. mark-begins a b next st (before none)))
 
 -- ---- the whole header
-pub ids-whole : (s : List ℕ) → Unrefused Whole (idSteps s (netStep s unread .n) (netStep s unread))
+pub ids-whole : (s : List ℕ) → Unrefused Whole (idSteps scheduled s (netStep scheduled s unread .n) (netStep scheduled s unread))
 ids-whole s e =
-    let sized = netStep s unread in
+    let sized = netStep scheduled s unread in
     let g = ids-begin s (sized .n) (sized .n) sized (omega arith) (λ q. (net-begins s q, refl)) e in
-    subst (λ (k : ℕ). Begins k (idSteps s (sized .n) sized)) (sym (g .1)) (g .0)
+    subst (λ (k : ℕ). Begins k (idSteps scheduled s (sized .n) sized)) (sym (g .1)) (g .0)
 
 pub header-begins : (s : List ℕ) → Unrefused Whole (header s)
-unfolding header
+unfolding headerWalk
 header-begins s =
-    let named = idSteps s (netStep s unread .n) (netStep s unread) in
-    repeat-ind (Unrefused Whole) (faultyStep s) (λ st p. faulty-begins s st p) (suc (named .t)) named (ids-whole s)
+    let named = idSteps scheduled s (netStep scheduled s unread .n) (netStep scheduled s unread) in
+    repeat-ind (Unrefused Whole) (faultyStep scheduled s) (λ st p. faulty-begins s st p) (suc (named .t)) named (ids-whole s)
 
 -- ---- what agreement asks of the beginning
 pub begins-setting : (st : Progress) → Whole st → Setting (st .n) (st .t) (st .faulty)

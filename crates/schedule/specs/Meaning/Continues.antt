@@ -17,20 +17,10 @@ use Rattle.lines.specs.Lines.Laws.{net-base-range, two-range}
 use Rattle.lines.specs.Lines.Told.{EventTold, event-told}
 use Rattle.protocol.specs.Net.{Net, Pair, Event, starts, carry, forge, eventRefusal, happens, run}
 use Rattle.protocol.specs.Agreement.{BaseOf, Proper, AllProper}
-use Rattle.schedule.specs.Meaning.{
-  Progress,
-  refuse,
-  onward,
-  withNet,
-  eventStep,
-  lineStep,
-  nextLine,
-  repeat,
-  wholeSchedule,
-  header,
-  meaning,
-}
-use Rattle.schedule.specs.Meaning.Laws.{Unrefused, refuse-owes, judged-owes, unless-ind, unless-owes, repeat-ind}
+use Rattle.schedule.specs.Walk.{linesWalk, walk, eventStep, lineStep, nextLine, repeat}
+use Rattle.schedule.specs.Meaning.{Progress, refuse, onward, withNet, wholeSchedule, header, meaning, scheduled}
+use Rattle.schedule.specs.Meaning.Laws.{Unrefused, refuse-owes, judged-owes, unless-ind, unless-owes}
+use Rattle.schedule.specs.Walk.Laws.{repeat-ind}
 
 -- ---- one event more at the end of a history
 pub run-more : (faulty : List Pair) (W : Net) (es : List Event) (e : Event)
@@ -84,14 +74,14 @@ continues-more begin st e next p T = record {
 }
 
 event-continues : (begin st : Progress) (e : Event) (next : ℕ)
-    → Proper (st .n) e → Continues begin st → Unrefused (Continues begin) (eventStep e next st)
+    → Proper (st .n) e → Continues begin st → Unrefused (Continues begin) (eventStep scheduled e next st)
 unfolding eventStep
 event-continues begin st e next p T =
     judged-owes (Continues begin) (eventRefusal (st .faulty) (st .net) e)
     st (withNet (happens (st .faulty) (st .net) e) (onward next st)) (λ _ _. continues-more begin st e next p T)
 
 line-continues : (s : List ℕ) (begin st : Progress) (p : ℕ) (x : Line)
-    → EventTold (st .n) s p x → Continues begin st → Unrefused (Continues begin) (lineStep s x st)
+    → EventTold (st .n) s p x → Continues begin st → Unrefused (Continues begin) (lineStep scheduled s x st)
 unfolding lineStep
 line-continues s begin st p (Start b next) told T =
     event-continues begin st (starts b outputRoom) next (proper-start (st .n) b outputRoom (told .0)) T
@@ -102,7 +92,8 @@ line-continues s begin st p (Forge a b at count next) told T =
     next (proper-forge (st .n) a b count outputRoom (drop at s) (told .0)) T
 line-continues s begin st p Wrong told T = refuse-owes (Continues begin) 13 st (λ e. omega arith)
 
-pub next-continues : (s : List ℕ) (begin st : Progress) → Unrefused (Continues begin) st → Unrefused (Continues begin) (nextLine s st)
+pub next-continues : (s : List ℕ) (begin st : Progress)
+    → Unrefused (Continues begin) st → Unrefused (Continues begin) (nextLine scheduled s st)
 unfolding nextLine
 next-continues s begin st before =
     unless-owes (Continues begin) st _ (λ none.
@@ -110,29 +101,31 @@ next-continues s begin st before =
     (λ _. line-continues s begin st (st .at) (eventLine (st .n) s (st .at)) (event-told (st .n) s (st .at)) (before none)))
 
 -- ---- many lines
-pub lines-continue : (s : List ℕ) (begin : Progress) (k : ℕ) → Unrefused (Continues begin) (repeat k (nextLine s) begin)
+pub lines-continue : (s : List ℕ) (begin : Progress) (k : ℕ) → Unrefused (Continues begin) (repeat k (nextLine scheduled s) begin)
 lines-continue s begin k =
-    repeat-ind (Unrefused (Continues begin)) (nextLine s) (λ st p. next-continues s begin st p) k begin (λ _. continues-none begin)
+    repeat-ind (Unrefused (Continues begin))
+    (nextLine scheduled s) (λ st p. next-continues s begin st p) k begin (λ _. continues-none begin)
 
 -- a line that is turned down stays so
-next-unrefused : (s : List ℕ) (st : Progress) → nextLine s st .refusal ≡ 0 → st .refusal ≡ 0
+next-unrefused : (s : List ℕ) (st : Progress) → nextLine scheduled s st .refusal ≡ 0 → st .refusal ≡ 0
 unfolding nextLine
 next-unrefused s st = unless-ind (λ x. x .refusal ≡ 0 → st .refusal ≡ 0) st _ (λ e _. e) (λ _ e. e)
 
-pub lines-unrefused : (s : List ℕ) (begin : Progress) (k : ℕ) → repeat k (nextLine s) begin .refusal ≡ 0 → begin .refusal ≡ 0
+pub lines-unrefused : (s : List ℕ) (begin : Progress) (k : ℕ) → repeat k (nextLine scheduled s) begin .refusal ≡ 0 → begin .refusal ≡ 0
 lines-unrefused s begin k =
-    repeat-ind (λ x. x .refusal ≡ 0 → begin .refusal ≡ 0) (nextLine s) (λ st before e. before (next-unrefused s st e)) k begin (λ e. e)
+    repeat-ind (λ x. x .refusal ≡ 0 → begin .refusal ≡ 0)
+    (nextLine scheduled s) (λ st before e. before (next-unrefused s st e)) k begin (λ e. e)
 
 -- ---- the whole schedule
 pub whole-continues : (s : List ℕ) → Unrefused (Continues (header s)) (wholeSchedule s)
-unfolding wholeSchedule
+unfolding linesWalk
 whole-continues s = lines-continue s (header s) (length s)
 
 pub header-unrefused : (s : List ℕ) → wholeSchedule s .refusal ≡ 0 → header s .refusal ≡ 0
-unfolding wholeSchedule
+unfolding linesWalk
 header-unrefused s = lines-unrefused s (header s) (length s)
 
 pub meaning-whole : (s : List ℕ) → meaning s .refusal ≡ 0 → meaning s ≡ wholeSchedule s
-unfolding meaning refuse
+unfolding walk refuse
 meaning-whole s =
     choose-ind (λ x. x .refusal ≡ 0 → x ≡ wholeSchedule s) (ltb longestSchedule (length s)) (λ _ e. absurd (omega arith)) (λ _ _. refl)

@@ -20,7 +20,8 @@ use Rattle.protocol.specs.Steps.{outputRefusal}
 use Rattle.protocol.specs.Net.{Net, Pair, Event, starts, carry, forge, call, callRefusal, eventRefusal, refusal, settled, happens}
 use Rattle.protocol.specs.Agreement.{Orderly}
 use Rattle.protocol.specs.Agreement.Besides.{orderly}
-use Rattle.schedule.specs.Meaning.{Progress, refuse, onward, withNet, judged, eventStep, lineStep, nextLine, repeat, header}
+use Rattle.schedule.specs.Walk.{judged, eventStep, lineStep, nextLine, repeat}
+use Rattle.schedule.specs.Meaning.{Progress, refuse, onward, withNet, header, scheduled}
 use Rattle.schedule.specs.Meaning.Begins.{Whole, header-begins, begins-setting, begins-fresh}
 use Rattle.schedule.specs.Meaning.Continues.{Continues, lines-continue, lines-unrefused, proper-start, proper-carry, proper-forge}
 
@@ -31,21 +32,21 @@ carriedOut e next st = withNet (settled (st .net) e) (onward next st)
 -- what a line does: a start is carried out; a carry that 16 and 17 let pass is; a forgery that 18 lets pass is, if its burst is not
 -- turned down (7 to 12)
 abbrev pub Effect : List ℕ → Progress → Line → Type 0
-Effect s st (Start b next) = lineStep s (Start b next) st ≡ carriedOut (starts b outputRoom) next st
+Effect s st (Start b next) = lineStep scheduled s (Start b next) st ≡ carriedOut (starts b outputRoom) next st
 Effect s st (Carry a b k next) =
-    lineStep s (Carry a b k next) st
-    ≡ judged (eventRefusal (st .faulty) (st .net) (carry a b k outputRoom)) st (carriedOut (carry a b k outputRoom) next st)
+    lineStep scheduled s (Carry a b k next) st
+    ≡ judged scheduled (eventRefusal (st .faulty) (st .net) (carry a b k outputRoom)) st (carriedOut (carry a b k outputRoom) next st)
 Effect s st (Forge a b at count next) =
     let bytes = hexBytes count (drop at s) in
-    lineStep s (Forge a b at count next) st
-    ≡ judged (eventRefusal (st .faulty) (st .net) (forge a b bytes outputRoom)) st
+    lineStep scheduled s (Forge a b at count next) st
+    ≡ judged scheduled (eventRefusal (st .faulty) (st .net) (forge a b bytes outputRoom)) st
     (choose (eqb (burstRefusal (st .n) bytes) 0) (carriedOut (forge a b bytes outputRoom) next st) (onward next st))
-Effect s st Wrong = lineStep s Wrong st ≡ refuse 13 st
+Effect s st Wrong = lineStep scheduled s Wrong st ≡ refuse 13 st
 
 -- the statement: of the next line, after any number of lines of events
 abbrev pub Effects : Type 0
 Effects = (s : List ℕ) (k : ℕ) →
-    let st = repeat k (nextLine s) (header s) in
+    let st = repeat k (nextLine scheduled s) (header s) in
     st .refusal ≡ 0 → Effect s st (eventLine (st .n) s (st .at))
 
 -- ---- one event
@@ -75,14 +76,14 @@ module _ (st : Progress) (e : Event) (next : ℕ) where
       stays = unfold withNet onward in refl
 
   event-effect : {r : ℕ} → (number ≡ 0 → callRefusal (call (st .net) e .answer) ≡ r)
-      → eventStep e next st ≡ judged number st (choose (eqb r 0) (carriedOut e next st) (onward next st))
+      → eventStep scheduled e next st ≡ judged scheduled number st (choose (eqb r 0) (carriedOut e next st) (onward next st))
   unfolding eventStep judged
   event-effect {r} h = cases (eqb number 0) refl
     where
       cases : (x : Bool) → eqb number 0 ≡ x
-          → judged number st (withNet (happens (st .faulty) (st .net) e) (onward next st))
-          ≡ judged number st (choose (eqb r 0) (carriedOut e next st) (onward next st))
-      cases true q = let z = eqb-true number 0 q in ap (judged number st) (call-effect (refused-by-call z ∙ h z))
+          → judged scheduled number st (withNet (happens (st .faulty) (st .net) e) (onward next st))
+          ≡ judged scheduled number st (choose (eqb r 0) (carriedOut e next st) (onward next st))
+      cases true q = let z = eqb-true number 0 q in ap (judged scheduled number st) (call-effect (refused-by-call z ∙ h z))
       cases false q = choose-no _ _ q ∙ sym (choose-no _ _ q)
 
 module _ (st : Progress) (O : Orderly (st .n) (st .t) (st .faulty) (st .net)) where
@@ -114,7 +115,7 @@ orderly-from begin st B T =
 
 pub effects : Effects
 effects s k e =
-    let st = repeat k (nextLine s) (header s) in
+    let st = repeat k (nextLine scheduled s) (header s) in
     line-effect
     st (orderly-from (header s) st (header-begins s (lines-unrefused s (header s) k e)) (lines-continue s (header s) k e)) s (st .at)
     (eventLine (st .n) s (st .at)) (event-told (st .n) s (st .at))

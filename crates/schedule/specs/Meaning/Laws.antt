@@ -6,16 +6,17 @@ use native.Mathlib.Omega.{arith}
 use borrow.Author.Tests.{eqb-true, eqb-false}
 use lib.Dec.{eqb}
 use Rattle.lists.specs.Choice.Laws.{choose-ind}
-use Rattle.schedule.specs.Meaning.{Progress, refuse, judged, unlessRefused, repeat}
+use Rattle.schedule.specs.Walk.{judged, unlessRefused}
+use Rattle.schedule.specs.Meaning.{Progress, refuse, scheduled}
 
 -- ---- a line that is not turned down
 pub judged-ind : (P : Progress → Type 0) (r : ℕ) (before after : Progress)
-    → (r ≡ 0 → P after) → ((r ≡ 0 → ⊥) → P (refuse r before)) → P (judged r before after)
+    → (r ≡ 0 → P after) → ((r ≡ 0 → ⊥) → P (refuse r before)) → P (judged scheduled r before after)
 unfolding judged
 judged-ind P r before after on off = choose-ind P (eqb r 0) (λ e. on (eqb-true r 0 e)) (λ e. off (eqb-false r 0 e))
 
 pub unless-ind : (P : Progress → Type 0) (st next : Progress)
-    → (st .refusal ≡ 0 → P next) → ((st .refusal ≡ 0 → ⊥) → P st) → P (unlessRefused st next)
+    → (st .refusal ≡ 0 → P next) → ((st .refusal ≡ 0 → ⊥) → P st) → P (unlessRefused scheduled st next)
 unfolding unlessRefused
 unless-ind P st next on off =
     choose-ind P (eqb (st .refusal) 0) (λ e. on (eqb-true (st .refusal) 0 e)) (λ e. off (eqb-false (st .refusal) 0 e))
@@ -29,27 +30,9 @@ unfolding refuse
 refuse-owes P r st n e = absurd (n e)
 
 pub judged-owes : (P : Progress → Type 0) (r : ℕ) (before after : Progress)
-    → (r ≡ 0 → Unrefused P after) → Unrefused P (judged r before after)
+    → (r ≡ 0 → Unrefused P after) → Unrefused P (judged scheduled r before after)
 judged-owes P r before after on = judged-ind (Unrefused P) r before after on (λ n. refuse-owes P r before n)
 
-pub unless-owes : (P : Progress → Type 0) (st next : Progress) → (st .refusal ≡ 0 → Unrefused P next) → Unrefused P (unlessRefused st next)
+pub unless-owes : (P : Progress → Type 0) (st next : Progress)
+    → (st .refusal ≡ 0 → Unrefused P next) → Unrefused P (unlessRefused scheduled st next)
 unless-owes P st next on = unless-ind (Unrefused P) st next on (λ n e. absurd (n e))
-
--- ---- the same step again and again
-pub repeat-ind : (P : Progress → Type 0) (f : Progress → Progress)
-    → ((st : Progress) → P st → P (f st)) → (k : ℕ) (st : Progress) → P st → P (repeat k f st)
-unfolding repeat
-repeat-ind P f step zero st p = p
-repeat-ind P f step (suc k) st p = step (repeat k f st) (repeat-ind P f step k st p)
-
--- once the step changes nothing, it is done
-pub repeat-done : (f : Progress → Progress) (m k : ℕ) (st : Progress)
-    → k ≤ m → f (repeat k f st) ≡ repeat k f st → repeat m f st ≡ repeat k f st
-unfolding repeat
-repeat-done f zero zero st l e = refl
-repeat-done f zero (suc k) st l e = absurd (omega arith)
-repeat-done f (suc m) k st l e = cases (eqb k (suc m)) refl (λ h. repeat-done f m k st h e)
-  where
-    cases : (b : Bool) → eqb k (suc m) ≡ b → (k ≤ m → repeat m f st ≡ repeat k f st) → f (repeat m f st) ≡ repeat k f st
-    cases true q before = ap (λ (j : ℕ). repeat j f st) (sym (eqb-true k (suc m) q))
-    cases false q before = ap f (before (omega (arith, eqb-false k (suc m) q))) ∙ e

@@ -14,7 +14,8 @@ use Rattle.lines.specs.declared.event.Line.the-variants.{Start, Carry, Forge, W
 use Rattle.lines.specs.Lines.{eventLine}
 use Rattle.lines.specs.Lines.Told.{EventTold, event-told}
 use Rattle.protocol.specs.Net.{Event, starts, carry, forge, eventRefusal, happens}
-use Rattle.schedule.specs.Meaning.{Progress, onward, withNet, eventStep, lineStep, nextLine, repeat, wholeSchedule, header}
+use Rattle.schedule.specs.Walk.{linesWalk, eventStep, lineStep, nextLine, repeat}
+use Rattle.schedule.specs.Meaning.{Progress, onward, withNet, wholeSchedule, header, scheduled}
 use Rattle.schedule.specs.Meaning.Laws.{Unrefused, refuse-owes, judged-owes, unless-owes}
 
 -- the next line begins at k or further on, or the text is at its end
@@ -27,14 +28,14 @@ unfolding withNet onward
 there s k st e next h = inl h
 
 event-reaches : (s : List ℕ) (k : ℕ) (st : Progress) (e : Event) (next : ℕ)
-    → suc k ≤ next → Unrefused (Reaches s (suc k)) (eventStep e next st)
+    → suc k ≤ next → Unrefused (Reaches s (suc k)) (eventStep scheduled e next st)
 unfolding eventStep
 event-reaches s k st e next h =
     judged-owes (Reaches s (suc k)) (eventRefusal (st .faulty) (st .net) e)
     st (withNet (happens (st .faulty) (st .net) e) (onward next st)) (λ _ _. there s k st e next h)
 
 line-reaches : (s : List ℕ) (k : ℕ) (st : Progress) (x : Line)
-    → k ≤ st .at → EventTold (st .n) s (st .at) x → Unrefused (Reaches s (suc k)) (lineStep s x st)
+    → k ≤ st .at → EventTold (st .n) s (st .at) x → Unrefused (Reaches s (suc k)) (lineStep scheduled s x st)
 unfolding lineStep
 line-reaches s k st (Start b next) h told = event-reaches s k st (starts b outputRoom) next (omega (arith, told .1))
 line-reaches s k st (Carry a b j next) h told = event-reaches s k st (carry a b j outputRoom) next (omega (arith, told .1 .1))
@@ -42,26 +43,27 @@ line-reaches s k st (Forge a b at count next) h told =
     event-reaches s k st (forge a b (hexBytes count (drop at s)) outputRoom) next (omega (arith, told .1 .1 .1))
 line-reaches s k st Wrong h told = refuse-owes (Reaches s (suc k)) 13 st (λ e. omega arith)
 
-next-reaches : (s : List ℕ) (k : ℕ) (st : Progress) → Unrefused (Reaches s k) st → Unrefused (Reaches s (suc k)) (nextLine s st)
+next-reaches : (s : List ℕ) (k : ℕ) (st : Progress) → Unrefused (Reaches s k) st → Unrefused (Reaches s (suc k)) (nextLine scheduled s st)
 unfolding nextLine
 next-reaches s k st before =
     unless-owes (Reaches s (suc k)) st _ (λ none.
     choose-ind (Unrefused (Reaches s (suc k))) (leb (length s) (st .at)) (λ e _. inr (leb-true (length s) (st .at) e))
     (λ e. go (before none) (leb-false (length s) (st .at) e)))
   where
-    go : Reaches s k st → st .at < length s → Unrefused (Reaches s (suc k)) (lineStep s (eventLine (st .n) s (st .at)) st)
+    go : Reaches s k st → st .at < length s → Unrefused (Reaches s (suc k)) (lineStep scheduled s (eventLine (st .n) s (st .at)) st)
     go (inl h) l = line-reaches s k st (eventLine (st .n) s (st .at)) h (event-told (st .n) s (st .at))
     go (inr h) l = absurd (omega arith)
 
-repeat-reaches : (s : List ℕ) (k : ℕ) (st : Progress) → Unrefused (Reaches s k) (repeat k (nextLine s) st)
+repeat-reaches : (s : List ℕ) (k : ℕ) (st : Progress) → Unrefused (Reaches s k) (repeat k (nextLine scheduled s) st)
 unfolding repeat
 repeat-reaches s zero st = λ _. inl (omega arith)
-repeat-reaches s (suc k) st = next-reaches s k (repeat k (nextLine s) st) (repeat-reaches s k st)
+repeat-reaches s (suc k) st = next-reaches s k (repeat k (nextLine scheduled s) st) (repeat-reaches s k st)
 
 pub whole-read : (s : List ℕ) → Unrefused (λ st. length s ≤ st .at) (wholeSchedule s)
-unfolding wholeSchedule
+unfolding linesWalk
 whole-read s e = go (repeat-reaches s (length s) (header s) e)
   where
-    go : Reaches s (length s) (repeat (length s) (nextLine s) (header s)) → length s ≤ repeat (length s) (nextLine s) (header s) .at
+    go : Reaches s (length s) (repeat (length s) (nextLine scheduled s) (header s))
+        → length s ≤ repeat (length s) (nextLine scheduled s) (header s) .at
     go (inl h) = h
     go (inr h) = h

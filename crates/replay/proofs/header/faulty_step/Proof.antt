@@ -6,7 +6,8 @@ use Rattle.lines.specs.Lines.Laws.{net-base-range}
 use Rattle.lines.specs.Lines.Told.{FaultyTold, faulty-told}
 use Rattle.lines.specs.declared.bases.Two.the-variants.{Both}
 use denote.Ref.{now}
-use Rattle.replay.specs.State.{faultyState}
+use Rattle.schedule.specs.Walk.{faultyStep}
+use Rattle.replay.specs.State.{replaying}
 use Rattle.replay.specs.State.Laws.{unless-stopped, unless-onward}
 use Rattle.replay.proofs.header.faulty_step.Statement.{statement}
 use Rattle.replay.proofs.header.faulty_step.Tie as tie
@@ -23,7 +24,7 @@ told c = subst (FaultyTold (c .before .before .before .before .before .before .b
     (c .before .before .before .before .before .before .before .before .args .state .at))
 
 returns : tie.Need-returns
-unfolding faultyState
+unfolding faultyStep
 returns c = unless-stopped _ _ (c .if1 .taken)
 
 faulty-line-requires : tie.Need-faulty-line-requires
@@ -36,7 +37,7 @@ enum-told : tie.Need-enum-told
 enum-told c = search needs
 
 returns-2 : tie.Need-returns-2
-unfolding faultyState
+unfolding faultyStep
 returns-2 c = unless-onward _
     (c .before .before .before .before .if1 .left) (rw (sym (c .before .before .faulty-line .ensures) ∙ c .enum-told .given .1) refl)
 
@@ -54,7 +55,7 @@ mark-faulty-requires : tie.Need-mark-faulty-requires
 mark-faulty-requires c κs = c .before .before .before .before .before .before .before .before .pre
 
 returns-3 : tie.Need-returns-3
-unfolding faultyState
+unfolding faultyStep
 returns-3 c = unless-onward _ (c .before .before .before .before .before .before .if1 .left)
     (rw (sym (c .before .before .before .before .faulty-line .ensures) ∙ c .before .before .a .given .1) (c .mark-faulty .ensures))
 

@@ -5,14 +5,16 @@ use Prim.Native.Nat.{ℕ, _+_, _-_, _≤_}
 use mathlib.Core.Path.{_≡_, refl, ap, _∙_}
 use denote.Ref.{now}
 use Rattle.replay.specs.declared.state.ReplayState.{ReplayState}
-use Rattle.replay.specs.State.{faultyState, repeatState}
-use Rattle.replay.specs.State.Laws.{repeat-none, repeat-more, faulty-near}
+use Rattle.schedule.specs.Walk.{faultyStep, repeat}
+use Rattle.replay.specs.State.{replaying}
+use Rattle.schedule.specs.Walk.Laws.{repeat-none, repeat-more}
+use Rattle.replay.specs.State.Laws.{faulty-near}
 use Rattle.replay.proofs.header.faulty_steps.Statement.{statement}
 use Rattle.replay.proofs.header.faulty_steps.Tie as tie
 
 abbrev Inv-loop : tie.InvT-loop
 Inv-loop s t most state₀ k₀ state k =
-    (k ≤ most) × ((most ≡ t + 1) × ((state .line ≤ 258 + k) × (state ≡ repeatState k (faultyState s) state₀)))
+    (k ≤ most) × ((most ≡ t + 1) × ((state .line ≤ 258 + k) × (state ≡ repeat k (faultyStep replaying s) state₀)))
 
 abbrev μ-loop : tie.MeasureT-loop
 μ-loop s t most state₀ k₀ state k = most - k
@@ -51,7 +53,7 @@ loop-again c = let I = c .before .before .loop .inv in (
 
 returns : tie.Need-returns Inv-loop μ-loop
 returns c = c .before .loop .inv .1 .1 .1
-    ∙ ap (λ (k : ℕ). repeatState k (faultyState (now (c .before .before .before .args .s))) (c .before .before .before .args .first))
+    ∙ ap (λ (k : ℕ). repeat k (faultyStep replaying (now (c .before .before .before .args .s))) (c .before .before .before .args .first))
     (omega (arith, c .before .loop .inv .0, c .before .loop .inv .1 .0, c .loop-test .left))
 
 pub faulty-steps-spec : {M : Type 1} → statement M

@@ -2,13 +2,14 @@
 use borrow.Author.Needs.{needs}
 use mathlib.Core.Path.{sym, ap, _∙_}
 use Rattle.net.specs.declared.StoredNet.{StoredNet}
-use Rattle.replay.specs.State.{onwardState, idState}
+use Rattle.schedule.specs.Walk.{idStep}
+use Rattle.replay.specs.State.{onwardState, replaying}
 use Rattle.replay.specs.State.Laws.{unless-stopped, unless-onward, judged-refused, judged-onward}
 use Rattle.replay.proofs.header.id_step.Statement.{statement}
 use Rattle.replay.proofs.header.id_step.Tie as tie
 
 returns : tie.Need-returns
-unfolding idState
+unfolding idStep
 returns c = unless-stopped _ _ (c .if1 .taken)
 
 id-line-requires : tie.Need-id-line-requires
@@ -24,7 +25,7 @@ refuse-requires : tie.Need-refuse-requires
 refuse-requires c κs = search needs
 
 returns-2 : tie.Need-returns-2
-unfolding idState
+unfolding idStep
 returns-2 c = unless-onward _ (c .before .before .before .before .if1 .left)
     (rw (sym (c .before .before .before .id-line .ensures) ∙ c .before .enum-told .given .1) (c .refuse .ensures))
 
@@ -35,7 +36,7 @@ refuse-requires-2 : tie.Need-refuse-requires-2
 refuse-requires-2 c κs = search needs
 
 returns-3 : tie.Need-returns-3
-unfolding idState
+unfolding idStep
 returns-3 c = unless-onward _ (c .before .before .before .before .before .before .before .before .if1 .left)
     (rw (sym (c .before .before .before .before .before .before .before .id-line .ensures)
     ∙ c .before .before .before .before .before .v .given .1)
@@ -48,7 +49,7 @@ onward-requires : tie.Need-onward-requires
 onward-requires c κs = c .before .before .before .before .before .before .before .before .before .before .before .pre
 
 returns-4 : tie.Need-returns-4
-unfolding idState
+unfolding idStep
 returns-4 c = unless-onward _ (c .before .before .before .before .before .before .before .before .before .if1 .left)
     (rw (sym (c .before .before .before .before .before .before .before .before .id-line .ensures)
     ∙ c .before .before .before .before .before .before .v .given .1) (judged-onward

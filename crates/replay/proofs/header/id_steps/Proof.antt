@@ -5,13 +5,14 @@ use mathlib.Core.Path.{_≡_, ap, _∙_}
 use Prim.Native.Nat.{ℕ}
 use denote.Ref.{now}
 use Rattle.replay.specs.declared.state.ReplayState.{ReplayState}
-use Rattle.replay.specs.State.{idStates}
+use Rattle.schedule.specs.Walk.{idSteps}
+use Rattle.replay.specs.State.{replaying}
 use Rattle.replay.specs.State.Laws.{ids-none, ids-more, id-near}
 use Rattle.replay.proofs.header.id_steps.Statement.{statement}
 use Rattle.replay.proofs.header.id_steps.Tie as tie
 
 abbrev Inv-loop : tie.InvT-loop
-Inv-loop s n state₀ b₀ state b = (b ≤ n) × ((state .line ≤ 2 + b) × (state ≡ idStates s b state₀))
+Inv-loop s n state₀ b₀ state b = (b ≤ n) × ((state .line ≤ 2 + b) × (state ≡ idSteps replaying s b state₀))
 
 abbrev μ-loop : tie.MeasureT-loop
 μ-loop s n state₀ b₀ state b = n - b
@@ -44,7 +45,7 @@ loop-again c = (
 )
 
 returns : tie.Need-returns Inv-loop μ-loop
-returns c = c .before .loop .inv .1 .1 ∙ ap (λ (k : ℕ). idStates (now (c .before .before .before .args .s))
+returns c = c .before .loop .inv .1 .1 ∙ ap (λ (k : ℕ). idSteps replaying (now (c .before .before .before .args .s))
     k (c .before .before .before .args .first)) (omega (arith, c .before .loop .inv .0, c .loop-test .left))
 
 pub id-steps-spec : {M : Type 1} → statement M

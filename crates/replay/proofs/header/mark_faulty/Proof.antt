@@ -5,7 +5,8 @@ use mathlib.Core.Bool.{not}
 use Rattle.lists.specs.Choice.Laws.{chosen-yes, chosen-no}
 use Rattle.net.specs.declared.StoredNet.{StoredNet}
 use Rattle.net.specs.Abstraction.{faultyOf}
-use Rattle.replay.specs.State.{onwardState, markedState}
+use Rattle.schedule.specs.Walk.{markStep}
+use Rattle.replay.specs.State.{onwardState, replaying}
 use Rattle.replay.specs.State.Laws.{judged-refused, judged-onward}
 use Rattle.replay.proofs.header.mark_faulty.Statement.{statement}
 use Rattle.replay.proofs.header.mark_faulty.Tie as tie
@@ -20,7 +21,7 @@ refuse-requires : tie.Need-refuse-requires
 refuse-requires c κs = search needs
 
 returns : tie.Need-returns
-unfolding markedState faultyOf
+unfolding markStep faultyOf
 returns c = chosen-no _ (ap not (sym (c .before .before .before .before .is-good .ensures) ∙ c .before .before .before .if1 .taken))
     (judged-refused _ _ (c .before .before .faulty-refusal .ensures) (c .before .if2 .taken) (c .refuse .ensures))
 
@@ -31,7 +32,7 @@ onward-requires : tie.Need-onward-requires
 onward-requires c κs = c .before .before .before .before .before .before .before .pre
 
 returns-2 : tie.Need-returns-2
-unfolding markedState faultyOf
+unfolding markStep faultyOf
 returns-2 c = chosen-no _
     (ap not (sym (c .before .before .before .before .before .is-good .ensures) ∙ c .before .before .before .before .if1 .taken))
     (judged-onward _ (c .before .before .before .faulty-refusal .ensures) (c .before .before .if2 .left)
@@ -43,7 +44,7 @@ refuse-requires-2 : tie.Need-refuse-requires-2
 refuse-requires-2 c κs = search needs
 
 returns-3 : tie.Need-returns-3
-unfolding markedState faultyOf
+unfolding markStep faultyOf
 returns-3 c = chosen-yes _ (ap not (sym (c .before .before .is-good .ensures) ∙ c .before .if1 .left)) (c .refuse2 .ensures)
 
 pub mark-faulty-spec : {M : Type 1} → statement M

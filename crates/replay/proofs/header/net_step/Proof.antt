@@ -6,7 +6,8 @@ use Rattle.net.specs.declared.StoredNet.{StoredNet}
 use Rattle.limits.specs.Refusals.{sizeRefusal}
 use Rattle.limits.specs.Refusals.Laws.{size-passed}
 use Rattle.replay.specs.declared.state.ReplayState.{ReplayState}
-use Rattle.replay.specs.State.{unreadState, refusedState, onwardState, netState}
+use Rattle.schedule.specs.Walk.{netStep}
+use Rattle.replay.specs.State.{unreadState, refusedState, onwardState, replaying}
 use Rattle.replay.specs.State.Laws.{judged-refused, judged-onward}
 use Rattle.replay.proofs.header.net_step.Statement.{statement}
 use Rattle.replay.proofs.header.net_step.Tie as tie
@@ -30,7 +31,7 @@ refuse-requires : tie.Need-refuse-requires
 refuse-requires c κs = search needs
 
 returns : tie.Need-returns
-unfolding netState
+unfolding netStep unreadState
 returns c = rw (sym (c .before .before .before .before .net-line .ensures) ∙ c .before .before .enum-told .given .1)
     (c .refuse .ensures ∙ ap (refusedState 13) (c .before .unread .ensures))
 
@@ -44,7 +45,7 @@ refuse-requires-2 : tie.Need-refuse-requires-2
 refuse-requires-2 c κs = search needs
 
 returns-2 : tie.Need-returns-2
-unfolding netState
+unfolding netStep unreadState
 returns-2 c = rw (sym (c .before .before .before .before .before .before .before .net-line .ensures)
     ∙ c .before .before .before .before .before .n .given .1)
     (judged-refused _ _ (c .before .before .before .size-refusal .ensures) (c .before .before .if1 .taken)
@@ -67,7 +68,7 @@ unfolding unreadState
 onward-requires c κs = omega (arith, ap (λ (p : ReplayState). p .line) (c .before .unread3 .ensures))
 
 returns-3 : tie.Need-returns-3
-unfolding netState
+unfolding netStep unreadState
 returns-3 c = rw (sym (c .before .before .before .before .before .before .before .before .net-line .ensures)
     ∙ c .before .before .before .before .before .before .n .given .1)
     (judged-onward _ (c .before .before .before .before .size-refusal .ensures) (c .before .before .before .if1 .left) (c .onward .ensures

@@ -5,7 +5,8 @@ use Prim.Native.Nat.{suc, _+_, _≤_}
 use mathlib.Core.Path.{ap, sym, _∙_, subst}
 use denote.Ref.{now}
 use Rattle.replay.specs.declared.state.ReplayState.{ReplayState}
-use Rattle.replay.specs.State.{idStates, faultyState, repeatState, headerState}
+use Rattle.schedule.specs.Walk.{idSteps, faultyStep, repeat, headerWalk}
+use Rattle.replay.specs.State.{replaying}
 use Rattle.replay.specs.State.Laws.{net-near, ids-near, faulties-near}
 use Rattle.replay.proofs.header.read_header.Statement.{statement}
 use Rattle.replay.proofs.header.read_header.Tie as tie
@@ -30,10 +31,10 @@ faulty-steps-requires : tie.Need-faulty-steps-requires
 faulty-steps-requires c κs = omega (arith, named-line (c))
 
 returns : tie.Need-returns
-unfolding headerState
+unfolding headerWalk
 returns c = let s = now (c .before .before .before .before .before .before .args .s) in
-    let faulties : ReplayState → ReplayState = λ p. repeatState (suc (p .net .t)) (faultyState s) p in
-    let ids : ReplayState → ReplayState = λ p. idStates s (p .net .n) p in (
+    let faulties : ReplayState → ReplayState = λ p. repeat (suc (p .net .t)) (faultyStep replaying s) p in
+    let ids : ReplayState → ReplayState = λ p. idSteps replaying s (p .net .n) p in (
       c .faulty-steps .ensures
           ∙ ap faulties (c .before .before .id-steps .ensures ∙ ap ids (c .before .before .before .before .net-step .ensures)),
       subst (λ (p : ReplayState). p .line ≤ 600) (sym (c .faulty-steps .ensures))
