@@ -24,7 +24,7 @@ pub fn check() -> Result<String, Vec<String>> {
     let sources = [
         ("include/roster.h", header(), 12),
         ("crates/limits/src/refusal.rt", constants(), table.len()),
-        ("the trace", arms("crates/hilltrace/src", ".rt"), 6),
+        ("the trace", arms("crates/causes/src", ".rt"), 15),
         ("the picture", arms("tools/hillpicture", ".rs"), 9),
     ];
     for (source, said, fewest) in sources {

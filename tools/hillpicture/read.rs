@@ -25,7 +25,7 @@ pub fn read(text: &str) -> Result<Trace, Wrong> {
 fn end_of(lines: &[&str]) -> usize {
     let Some(End::Refused { line, .. }) = lines.last().and_then(|last| refusal_of(&[last])) else { return lines.len() };
     let begin = format!("line {line}: ");
-    lines.iter().position(|text| text.starts_with(&begin)).unwrap_or(lines.len() - 1)
+    lines.iter().rposition(|text| text.starts_with(&begin)).unwrap_or(lines.len() - 1)
 }
 
 /// Lines about the refused line, the last of them `refused N line L`.

@@ -1,13 +1,14 @@
 // Replays a schedule: reads it from standard input and writes the report to standard output. What goes wrong on the way is said on standard
 // error, in one line.
 use input::Input;
+use input::arguments::asks_help;
 use input::read_input;
 use libc::STDERR_FILENO;
 use libc::STDOUT_FILENO;
 use limits::LONGEST_SCHEDULE;
 use replay::REPORT_ROOM;
 
-fn main() {
+fn replay_input() {
     if 1 < os::arg_count() {
         io::write_all(
             STDERR_FILENO,
@@ -26,4 +27,15 @@ fn main() {
     if !io::write_all(STDOUT_FILENO, &report[..end]) {
         os::fail(b"hillreplay: writing standard output");
     }
+}
+
+fn main() {
+    if asks_help() {
+        io::write_all(
+            STDOUT_FILENO,
+            b"usage: hillreplay < SCHEDULE    prints the report of the schedule\n",
+        );
+        return;
+    }
+    replay_input();
 }

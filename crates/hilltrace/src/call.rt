@@ -22,9 +22,9 @@ fn stop(b: u8, base: Base) {
         say::base(b, b" stops: secondary");
     }
     say::identifiers(list, base.n as usize);
-    say::text(b" leader ");
-    say::number(leader_of(&list) as usize);
-    say::text(b"\n");
+    output::text(b" leader ");
+    output::number(leader_of(&list) as usize);
+    output::text(b"\n");
 }
 
 // The check that follows an accepted message, and the stop that may follow the check.
@@ -44,11 +44,11 @@ fn checked(b: u8, after: Base, made: usize, answer: CallAnswer, burst: &[u8], fr
 }
 
 fn on_link(from: u8, link: usize, words: &[u8]) {
-    say::text(b" from base ");
-    say::number(from as usize);
-    say::text(b" on link ");
-    say::number(link);
-    say::text(words);
+    output::text(b" from base ");
+    output::number(from as usize);
+    output::text(b" on link ");
+    output::number(link);
+    output::text(words);
 }
 
 fn hears(b: u8, n: u8, burst: &[u8]) {
@@ -58,12 +58,12 @@ fn hears(b: u8, n: u8, burst: &[u8]) {
 
 fn refused(b: u8, from: u8, link: usize, length: usize, number: u8) {
     say::base(b, b" hears ");
-    say::number(length);
-    say::text(b" bytes");
+    output::number(length);
+    output::text(b" bytes");
     on_link(from, link, b": refused by ");
-    say::number(number as usize);
-    say::text(b", ");
-    reason::refused(number);
+    output::number(number as usize);
+    output::text(b", ");
+    causes::refused(number);
 }
 
 // The message, and why it is thrown away.

@@ -1,16 +1,17 @@
 // The lines of events.
 use crate::call;
-use crate::parts::part;
 use crate::walk::Walk;
 use crate::walk::halt;
 use crate::walk::onward;
 use crate::walk::show_line;
+use limits::refusal::FORM;
 use lines::event::Line;
 use lines::event::event_line;
 use net::nodes::node_at;
 use net::nodes::with_node;
 use node::log::broadcast;
 use numbering::link_to;
+use output::parts::part;
 use text::hex::hex_bytes;
 
 fn started(s: &[u8], walk: Walk, b: u8, next: usize) -> Walk {
@@ -26,6 +27,13 @@ fn started(s: &[u8], walk: Walk, b: u8, next: usize) -> Walk {
     onward(walk, with_node(net, b, after), next)
 }
 
+// A refused carry, whose sender has broadcast so many messages.
+fn halt_carry(walk: Walk, refusal: u8, broadcasts: usize) -> Walk {
+    let mut after = halt(walk, refusal);
+    after.broadcasts = broadcasts;
+    after
+}
+
 fn carried(s: &[u8], walk: Walk, a: u8, b: u8, k: usize, next: usize) -> Walk {
     let net = walk.net;
     let faulty = net.faulty;
@@ -33,7 +41,7 @@ fn carried(s: &[u8], walk: Walk, a: u8, b: u8, k: usize, next: usize) -> Walk {
     let node = node_at(net, b);
     let reached = events::carry(sender, node, faulty, a, b, k);
     if reached.refusal != 0 {
-        return halt(walk);
+        return halt_carry(walk, reached.refusal, sender.count);
     }
     show_line(s, walk, next);
     let frame = broadcast(sender, k);
@@ -51,7 +59,7 @@ fn forged(s: &[u8], walk: Walk, a: u8, b: u8, at: usize, count: usize, next: usi
     let bytes = hex_bytes(s, at, count);
     let reached = events::forge(node, faulty, a, b, part(&bytes, 0, count));
     if reached.refusal != 0 {
-        return halt(walk);
+        return halt(walk, reached.refusal);
     }
     show_line(s, walk, next);
     call::arrival_call(b, node, a, link_to(b, a), part(&bytes, 0, count));
@@ -77,22 +85,23 @@ fn step(s: &[u8], walk: Walk) -> Walk {
             count,
             next,
         } => forged(s, walk, from, to, at, count, next),
-        Line::Wrong => halt(walk),
+        Line::Wrong => halt(walk, FORM),
     }
 }
 
 // Every event, up to the schedule's end or the first line that is refused.
-pub(crate) fn steps(s: &[u8], first: Walk) {
+pub(crate) fn steps(s: &[u8], first: Walk) -> Walk {
     let mut walk = first;
     let mut k: usize = 0;
     while k < s.len() {
         k += 1;
-        if walk.halted {
-            return;
+        if walk.refusal != 0 {
+            return walk;
         }
         if s.len() <= walk.at {
-            return;
+            return walk;
         }
         walk = step(s, walk);
     }
+    walk
 }

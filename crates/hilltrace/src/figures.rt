@@ -25,9 +25,9 @@ fn sum_asked(n: u8, t: u8) -> usize {
 // What the check made of the base.
 fn verdict(state: u8) {
     match state {
-        2 => say::text(b", prime\n"),
-        3 => say::text(b", secondary\n"),
-        _ => say::text(b", runs on\n"),
+        2 => output::text(b", prime\n"),
+        3 => output::text(b", secondary\n"),
+        _ => output::text(b", runs on\n"),
     }
 }
 

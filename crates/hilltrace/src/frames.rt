@@ -1,8 +1,8 @@
 // The frames that a call broadcast.
-use crate::parts::part;
-use crate::parts::plus;
 use crate::say;
 use c_answers::CallAnswer;
+use output::parts::part;
+use output::parts::plus;
 use protocol::Base;
 
 // A broadcast of base b, by its number.
@@ -11,10 +11,10 @@ fn broadcast(b: u8, n: u8, number: usize, frame: &[u8]) {
         return;
     }
     say::base(b, b" broadcasts ");
-    say::number(number);
-    say::text(b": ");
+    output::number(number);
+    output::text(b": ");
     say::message(n, frame);
-    say::text(b"\n");
+    output::text(b"\n");
 }
 
 // The length of a frame that is to be shown: one before the check, or else the Correct-Final of a base that stops. Next is the

@@ -1,31 +1,61 @@
-// Shows a schedule of standard input line by line: what each event did, what was broadcast, and the figures of the checks; then the
-// report, as hillreplay prints it. What goes wrong on the way is said on standard error, in one line.
+// Shows a schedule of standard input line by line: what each event did, what was broadcast, and the figures of the checks, and why a
+// line is refused; then the report, as hillreplay prints it. What goes wrong on the way is said on standard error, in one line.
 mod call;
 mod event;
 mod figures;
 mod frames;
-mod parts;
 mod reason;
 mod say;
 mod walk;
 
-use crate::parts::part;
+use crate::walk::Walk;
+use causes::RefusedLine;
+use causes::explain;
 use input::Input;
+use input::arguments::asks_help;
 use input::read_input;
 use libc::STDERR_FILENO;
 use libc::STDOUT_FILENO;
 use limits::LONGEST_SCHEDULE;
+use output::parts::part;
 use replay::REPORT_ROOM;
 
-// The lines, unless there are more bytes than a schedule may have.
-fn show(schedule: &[u8]) {
+// Of a schedule that is too long, line 1 is named.
+fn shown(schedule: &[u8]) -> Walk {
     if LONGEST_SCHEDULE < schedule.len() {
+        return walk::refused_whole();
+    }
+    event::steps(schedule, walk::header(schedule))
+}
+
+// The lines, and why one is refused.
+fn show(schedule: &[u8]) {
+    let walk = shown(schedule);
+    if walk.refusal == 0 {
         return;
     }
-    event::steps(schedule, walk::header(schedule));
+    let net = walk.net;
+    let faulty = net.faulty;
+    explain(
+        schedule,
+        RefusedLine {
+            refusal: walk.refusal,
+            number: walk.line,
+            at: walk.at,
+            n: net.n as usize,
+            t: net.t as usize,
+            faulty: faulty.count,
+            broadcasts: walk.broadcasts,
+        },
+    );
 }
 
 fn main() {
+    if asks_help() {
+        return output::text(
+            b"usage: hilltrace < SCHEDULE    prints what each line of the schedule did, then the report\n",
+        );
+    }
     if 1 < os::arg_count() {
         io::write_all(
             STDERR_FILENO,

@@ -1,14 +1,8 @@
 // Pieces of the trace, written to standard output as they come.
 use c_answers::read_numbers;
 use limits::MOST_BASES;
-
-pub(crate) fn text(words: &[u8]) {
-    io::write_all(1, words);
-}
-
-pub(crate) fn number(v: usize) {
-    io::print_decimal(1, v as u64);
-}
+use output::number;
+use output::text;
 
 fn identifier(g: u32) {
     text(b" ");

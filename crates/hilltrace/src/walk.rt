@@ -1,9 +1,6 @@
-// How far a schedule is shown. A line that is refused is not shown: the report names it.
-use crate::parts::between;
-use crate::parts::byte;
-use crate::parts::part;
-use crate::parts::plus;
+// How far a schedule is shown: up to its end, or to the line that is refused.
 use crate::say;
+use limits::refusal::FORM;
 use lines::bases::Two;
 use lines::header::faulty_line;
 use lines::header::id_line;
@@ -15,6 +12,10 @@ use net::links::with_faulty;
 use net::made::id_refusal;
 use net::made::made;
 use net::made::named;
+use output::parts::between;
+use output::parts::byte;
+use output::parts::part;
+use output::parts::plus;
 use soundness::refusals::setting_refusal;
 use text::number::Number;
 
@@ -23,24 +24,26 @@ pub(crate) struct Walk {
     // Where the next line begins, and its number.
     pub at: usize,
     pub line: usize,
-    // The line that begins there is refused.
-    pub halted: bool,
+    // The number by which the line that begins there is refused, or zero; and how many messages the sender of a refused carry has
+    // broadcast.
+    pub refusal: u8,
+    pub broadcasts: usize,
 }
 
-pub(crate) fn halt(walk: Walk) -> Walk {
+pub(crate) fn halt(walk: Walk, refusal: u8) -> Walk {
     let mut after = walk;
-    after.halted = true;
+    after.refusal = refusal;
     after
 }
 
 // `line L: ` and the schedule's own line, which ends before next.
 pub(crate) fn show_line(s: &[u8], walk: Walk, next: usize) {
     let at = walk.at;
-    say::text(b"line ");
-    say::number(walk.line);
-    say::text(b": ");
-    say::text(part(s, at, between(at, next)));
-    say::text(b"\n");
+    output::text(b"line ");
+    output::number(walk.line);
+    output::text(b": ");
+    output::text(part(s, at, between(at, next)));
+    output::text(b"\n");
 }
 
 // The next line leaves this net.
@@ -49,7 +52,8 @@ pub(crate) fn onward(walk: Walk, net: StoredNet, next: usize) -> Walk {
         net,
         at: next,
         line: plus(walk.line, 1),
-        halted: false,
+        refusal: 0,
+        broadcasts: 0,
     }
 }
 
@@ -57,10 +61,11 @@ fn id_step(s: &[u8], b: u8, walk: Walk) -> Walk {
     let net = walk.net;
     let at = walk.at;
     let Number::Value(v, next) = id_line(b, s, at) else {
-        return halt(walk);
+        return halt(walk, FORM);
     };
-    if id_refusal(net, v) != 0 {
-        return halt(walk);
+    let refusal = id_refusal(net, v);
+    if refusal != 0 {
+        return halt(walk, refusal);
     }
     show_line(s, walk, next);
     onward(walk, named(net, b, v), next)
@@ -70,10 +75,11 @@ fn faulty_step(s: &[u8], walk: Walk, a: u8, b: u8, next: usize) -> Walk {
     let net = walk.net;
     let faulty = net.faulty;
     if !is_good(faulty, a, b) {
-        return halt(walk);
+        return halt(walk, FORM);
     }
-    if faulty_refusal(faulty, net.t) != 0 {
-        return halt(walk);
+    let refusal = faulty_refusal(faulty, net.t);
+    if refusal != 0 {
+        return halt(walk, refusal);
     }
     show_line(s, walk, next);
     onward(walk, with_faulty(net, a, b), next)
@@ -84,7 +90,7 @@ fn id_steps(s: &[u8], n: u8, first: Walk) -> Walk {
     let mut b: u8 = 0;
     while b < n {
         b += 1;
-        if walk.halted {
+        if walk.refusal != 0 {
             return walk;
         }
         walk = id_step(s, b, walk);
@@ -97,7 +103,7 @@ fn faulty_steps(s: &[u8], n: u8, first: Walk) -> Walk {
     let mut k: usize = 0;
     while k < s.len() {
         k += 1;
-        if walk.halted {
+        if walk.refusal != 0 {
             return walk;
         }
         let at = walk.at;
@@ -109,19 +115,30 @@ fn faulty_steps(s: &[u8], n: u8, first: Walk) -> Walk {
     walk
 }
 
-// The header's lines.
-pub(crate) fn header(s: &[u8]) -> Walk {
-    let first = Walk {
+fn beginning() -> Walk {
+    Walk {
         net: made(0, 0),
         at: 0,
         line: 1,
-        halted: false,
-    };
+        refusal: 0,
+        broadcasts: 0,
+    }
+}
+
+// A schedule that is refused for its length.
+pub(crate) fn refused_whole() -> Walk {
+    halt(beginning(), FORM)
+}
+
+// The header's lines.
+pub(crate) fn header(s: &[u8]) -> Walk {
+    let first = beginning();
     let Two::Both(n, t, next) = net_line(s, 0) else {
-        return halt(first);
+        return halt(first, FORM);
     };
-    if setting_refusal(n as usize, t as usize, 1) != 0 {
-        return halt(first);
+    let refusal = setting_refusal(n as usize, t as usize, 1);
+    if refusal != 0 {
+        return halt(first, refusal);
     }
     show_line(s, first, next);
     let walk = onward(first, made(byte(n), byte(t)), next);

@@ -1,4 +1,6 @@
-// Standard input, read whole.
+// Standard input, read whole; and what a program is called with.
+pub mod arguments;
+
 use libc::STDIN_FILENO;
 ghost use Prim.Native.Nat.{_≤_};
 ghost use lib.ListN.{length};

@@ -8,6 +8,7 @@
 pub mod base;
 pub mod bench;
 pub mod case;
+pub mod causes;
 pub mod checks;
 pub mod compared;
 pub mod demand;

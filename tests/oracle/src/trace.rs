@@ -1,7 +1,8 @@
 //! What the trace program says became of each line, held against the model: accepted; discarded, and why; or turned down, by which number.
-//! The reasons are the model's own, put into the trace's words here.
+//! The reasons are the model's own, put into the trace's words here; why a line is refused is worked out in `causes`.
 
 use crate::base::Base;
+use crate::causes;
 use crate::faults::Fault;
 use crate::generate::{histories, schedules};
 use crate::limits::{link_to, LONGEST_SCHEDULE};
@@ -82,14 +83,14 @@ struct Compared {
 impl Compared {
     fn take(&mut self, program: &str, schedule: &[u8], name: &str) {
         let ours = by_the_model(schedule);
-        let report = replay::report(schedule, Fault::None);
-        match traced(program, schedule).and_then(|trace| Ok((by_the_trace(&trace)?, trace.ends_with(&report)))) {
+        let ending = ending(schedule);
+        match traced(program, schedule).and_then(|trace| Ok((by_the_trace(&trace)?, ends_with(&trace, &ending)))) {
             Ok((theirs, true)) if theirs == ours => {
                 for (_, outcome) in ours {
                     *self.counts.entry(outcome).or_default() += 1;
                 }
             }
-            Ok((_, false)) => self.wrong.push(format!("{name}: the trace does not end with the model's report")),
+            Ok((_, false)) => self.wrong.push(format!("{name}: the trace does not end with the model's {ending:?}")),
             Ok((theirs, true)) => {
                 let at = ours.iter().zip(&theirs).position(|(one, other)| one != other).unwrap_or(ours.len().min(theirs.len()));
                 self.wrong.push(format!("{name}: {:?} by the model, {:?} by the trace", ours.get(at), theirs.get(at)));
@@ -109,6 +110,25 @@ impl Compared {
         println!("{} schedules told otherwise, {missed} outcomes that did not come up", self.wrong.len());
         self.wrong.is_empty() && missed == 0
     }
+}
+
+/// The report's lines; before a refusal's the refused line, its number, and why it is refused.
+fn ending(schedule: &[u8]) -> Vec<String> {
+    let report = replay::report(schedule, Fault::None).lines().map(str::to_string).collect();
+    let Err(refused) = replay::replay(schedule, Fault::None) else { return report };
+    let (line, causes) = causes::told(schedule, refused);
+    let number = format!("{REFUSED_BY}{}, ", refused.number);
+    [line, number].into_iter().chain(causes.iter().map(|cause| format!("  {cause}"))).chain(report).collect()
+}
+
+const REFUSED_BY: &str = "  refused by ";
+
+/// Line by line; of a number's line its beginning. tests/repository compares the words behind it.
+fn ends_with(trace: &str, ending: &[String]) -> bool {
+    let lines: Vec<&str> = trace.lines().collect();
+    let is = |line: &str, wanted: &String| line == wanted || (wanted.starts_with(REFUSED_BY) && line.starts_with(wanted.as_str()));
+    let begin = lines.len().saturating_sub(ending.len());
+    lines.len() >= ending.len() && lines[begin..].iter().zip(ending).all(|(line, wanted)| is(line, wanted))
 }
 
 fn by_the_model(schedule: &[u8]) -> Outcomes {

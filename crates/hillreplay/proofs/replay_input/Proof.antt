@@ -1,4 +1,4 @@
--- `hillreplay::main` is safe and ends: the lengths of what is lent.
+-- `replay_input` is safe and ends: the lengths of what is lent.
 use native.Mathlib.Omega.{arith}
 use Prim.Native.Nat.{_≤_}
 use mathlib.Core.Path.{sym, subst}
@@ -6,8 +6,8 @@ use lib.ListN.{length}
 use lib.Seq.{length-take-le}
 use Rattle.input.specs.Within.{ReadWithin}
 use borrow.Author.Needs.{needs}
-use Rattle.hillreplay.proofs.main.Statement.{statement}
-use Rattle.hillreplay.proofs.main.Tie as tie
+use Rattle.hillreplay.proofs.replay_input.Statement.{statement}
+use Rattle.hillreplay.proofs.replay_input.Tie as tie
 
 -- what was read fits the buffer
 fits : (c : tie.After-known-told) → c .before .length .given .0 .0 ≤ length (c .before .before .before .before .read-input .last .0)
@@ -81,8 +81,8 @@ returns-3 c = search needs
 returns-4 : tie.Need-returns-4
 returns-4 c = search needs
 
-pub main-spec : {M : Type 1} → statement M
-main-spec =
+pub replay-input-spec : {M : Type 1} → statement M
+replay-input-spec =
     tie.close
     (tie.spec
     arg-count-requires

@@ -1,7 +1,7 @@
 // Parts of slices and sums of places, for any numbers.
 
 // The len bytes of s from a place on, as far as there are so many.
-pub(crate) fn part<'a>(s: &'a [u8], from: usize, len: usize) -> &'a [u8] {
+pub fn part<'a>(s: &'a [u8], from: usize, len: usize) -> &'a [u8] {
     if s.len() < from {
         return &s[0..0];
     }
@@ -13,7 +13,7 @@ pub(crate) fn part<'a>(s: &'a [u8], from: usize, len: usize) -> &'a [u8] {
 }
 
 // The bytes from a place up to the line feed before another.
-pub(crate) fn between(at: usize, next: usize) -> usize {
+pub fn between(at: usize, next: usize) -> usize {
     if next <= at {
         return 0;
     }
@@ -21,7 +21,7 @@ pub(crate) fn between(at: usize, next: usize) -> usize {
 }
 
 // A place further on.
-pub(crate) fn plus(at: usize, by: usize) -> usize {
+pub fn plus(at: usize, by: usize) -> usize {
     if 65536 < at {
         return at;
     }
@@ -31,7 +31,7 @@ pub(crate) fn plus(at: usize, by: usize) -> usize {
     at + by
 }
 
-pub(crate) fn byte(v: u32) -> u8 {
+pub fn byte(v: u32) -> u8 {
     if 255 < v {
         return 255;
     }

@@ -1,0 +1,44 @@
+// Standard output, written in pieces as they come, and parts of slices for any numbers.
+pub mod parts;
+
+use libc::STDOUT_FILENO;
+
+pub fn text(words: &[u8]) {
+    io::write_all(STDOUT_FILENO, words);
+}
+
+pub fn number(v: usize) {
+    io::print_decimal(STDOUT_FILENO, v as u64);
+}
+
+// Whether a byte is seen where it is written: a space and the signs of ASCII.
+pub fn prints(b: u8) -> bool {
+    if b < b' ' {
+        return false;
+    }
+    b <= b'~'
+}
+
+fn visible_byte(b: u8) {
+    if prints(b) {
+        io::write_all(STDOUT_FILENO, &[b]);
+        return;
+    }
+    match b {
+        b'\t' => text(b"\\t"),
+        b'\r' => text(b"\\r"),
+        _ => {
+            text(b"\\x");
+            io::print_hex(STDOUT_FILENO, b as u64, 2);
+        }
+    }
+}
+
+// Bytes of a schedule, those that do not print as `\t`, `\r` or `\x00`.
+pub fn visible(bytes: &[u8]) {
+    let mut i: usize = 0;
+    while i < bytes.len() {
+        visible_byte(bytes[i]);
+        i += 1;
+    }
+}

@@ -1,0 +1,228 @@
+//! Why a line of a schedule is refused, in the trace's words, worked out from the text of the schedule.
+
+use crate::faults::Fault;
+use crate::limits::{most_faulty, LONGEST_FORGERY, LONGEST_SCHEDULE};
+use crate::reader::Number;
+use crate::replay::{self, Refused};
+
+/// Bytes of a line or a field that the trace shows.
+const SHOWN: usize = 80;
+/// The words of lines, with the names of their fields.
+const FORMS: [(&str, &[&str]); 6] = [
+    ("net", &["n", "t"]),
+    ("id", &["b", "v"]),
+    ("faulty", &["a", "b"]),
+    ("start", &["b"]),
+    ("carry", &["a", "b", "k"]),
+    ("forge", &["a", "b", "hex"]),
+];
+
+/// The refused line as the trace shows it, and the causes under the number.
+pub fn told(schedule: &[u8], refused: Refused) -> (String, Vec<String>) {
+    let all: Vec<&[u8]> = schedule.split_inclusive(|&byte| byte == b'\n').collect();
+    let here = all.get(refused.line - 1).copied().unwrap_or_default();
+    let text = here.strip_suffix(b"\n").unwrap_or(here);
+    let before: Vec<String> = all.iter().take(refused.line - 1).map(|line| plain(line)).collect();
+    let line = Line { number: refused.line, before, words: plain(text).split(' ').map(str::to_string).collect() };
+    let causes = match refused.number {
+        13 if schedule.len() > LONGEST_SCHEDULE => vec!["the schedule has more than 65,536 bytes".to_string()],
+        13 if all.len() < refused.line => vec!["the schedule ends before it".to_string(), line.belongs()],
+        13 => bytes(text).map_or_else(|| line.form(here.ends_with(b"\n")), |cause| vec![cause]),
+        number => vec![line.cause(number, schedule)],
+    };
+    (format!("line {}: {}", refused.line, shown(text)), causes)
+}
+
+/// A byte a char, without the line feed.
+fn plain(line: &[u8]) -> String {
+    line.iter().filter(|&&byte| byte != b'\n').map(|&byte| byte as char).collect()
+}
+
+fn shown(text: &[u8]) -> String {
+    let seen: String = text.iter().take(SHOWN).map(|&byte| visible(byte)).collect();
+    match text.len() > SHOWN {
+        true => format!("{seen} ... ({} bytes)", text.len()),
+        false => seen,
+    }
+}
+
+fn visible(byte: u8) -> String {
+    match byte {
+        b' '..=b'~' => (byte as char).to_string(),
+        b'\t' => "\\t".to_string(),
+        b'\r' => "\\r".to_string(),
+        _ => format!("\\x{byte:02x}"),
+    }
+}
+
+/// The first byte that does not print.
+fn bytes(text: &[u8]) -> Option<String> {
+    let place = text.iter().position(|byte| !(b' '..=b'~').contains(byte))?;
+    Some(match text {
+        [0xef, 0xbb, 0xbf, ..] => "a byte-order mark (\\xef\\xbb\\xbf) stands at the beginning".to_string(),
+        [.., b'\r'] if place + 1 == text.len() => "a carriage return (\\r) stands before the line feed".to_string(),
+        _ => format!("byte {} is {}, which stands in no line", place + 1, visible(text[place])),
+    })
+}
+
+struct Line {
+    number: usize,
+    before: Vec<String>,
+    words: Vec<String>,
+}
+
+impl Line {
+    fn word(&self, i: usize) -> &str {
+        self.words.get(i).map_or("", String::as_str)
+    }
+
+    /// The word of the line before the event lines, 0 in the net's own line.
+    fn n(&self) -> usize {
+        self.before.first().and_then(|net| net.split(' ').nth(1)?.parse().ok()).unwrap_or(0)
+    }
+
+    fn base(&self, i: usize) -> usize {
+        self.word(i).parse().unwrap_or(0)
+    }
+
+    fn is(&self, names: &[&str], i: usize) -> String {
+        format!("{} is {}", names[i - 1], shown(self.word(i).as_bytes()))
+    }
+
+    fn cause(&self, number: Number, schedule: &[u8]) -> String {
+        let (a, b) = (self.base(1), self.base(2));
+        match number {
+            1 => format!("n is {}", self.word(1)),
+            2 => format!("t is {b}, and {} is the limit of {a} bases", most_faulty(a)),
+            3 => "an identifier is above zero".to_string(),
+            14 => {
+                let has_it = |line: &String| line.starts_with("id ") && line.split(' ').nth(2) == Some(self.word(2));
+                format!("line {} has it for another base", self.first(has_it))
+            }
+            15 => format!("t is {}, and so many are named before it", self.before[0].split(' ').nth(2).unwrap_or_default()),
+            16 => format!("up to here base {a} has broadcast {} messages", self.broadcasts(schedule, a)),
+            17 => format!("line {} is that carry", self.first(|line| *line == self.words.join(" "))),
+            _ => format!("the header has no line `faulty {} {}`", a.min(b), a.max(b)),
+        }
+    }
+
+    fn first(&self, wanted: impl Fn(&String) -> bool) -> usize {
+        self.before.iter().position(wanted).map_or(0, |place| place + 1)
+    }
+
+    fn broadcasts(&self, schedule: &[u8], a: usize) -> usize {
+        let length: usize = self.before.iter().map(|line| line.chars().count() + 1).sum();
+        replay::replay(&schedule[..length], Fault::None).map_or(0, |net| net.logs[a - 1].len())
+    }
+
+    fn belongs(&self) -> String {
+        match self.number {
+            1 => "the first line is `net n t`".to_string(),
+            number => format!("here belongs the line of base {}, `id b v`", number - 1),
+        }
+    }
+
+    /// The spaces, the word, the fields.
+    fn form(&self, ended: bool) -> Vec<String> {
+        if !ended {
+            return vec!["no line feed stands at the end".to_string()];
+        }
+        let Some(&(word, names)) = FORMS.iter().find(|(word, _)| *word == self.word(0)) else {
+            return vec![self.spaces().unwrap_or_else(|| self.unknown())];
+        };
+        if let Some(cause) = self.spaces().or_else(|| self.misplaced(word)) {
+            return vec![cause];
+        }
+        let fields = self.words.len() - 1;
+        if fields == names.len() {
+            return vec![self.fields(word, names)];
+        }
+        let mut causes = vec![format!("the form is `{word} {}`, and the line has {fields} fields behind its word", names.join(" "))];
+        if (word, fields) == ("forge", 2) {
+            causes.push("the space before hex stands even where there are no bytes".to_string());
+        }
+        causes
+    }
+
+    fn unknown(&self) -> String {
+        match self.words.join(" ").is_empty() {
+            true => "the line is empty".to_string(),
+            false => format!("there is no word {}, only net, id, faulty, start, carry and forge", shown(self.word(0).as_bytes())),
+        }
+    }
+
+    fn spaces(&self) -> Option<String> {
+        let text = self.words.join(" ");
+        if text.starts_with(' ') {
+            return Some("a space stands at the beginning".to_string());
+        }
+        if let Some(place) = text.find("  ") {
+            return Some(format!("byte {} is a second space, and one separates two words", place + 2));
+        }
+        (text.ends_with(' ') && !text.starts_with("forge ")).then(|| "a space stands at the end".to_string())
+    }
+
+    fn misplaced(&self, word: &str) -> Option<String> {
+        let n = self.n();
+        if self.number <= n + 1 || self.number == 1 {
+            let wanted = if self.number == 1 { "net" } else { "id" };
+            return (word != wanted).then(|| self.belongs());
+        }
+        let events = self.before.iter().any(|line| ["start ", "carry ", "forge "].iter().any(|event| line.starts_with(event)));
+        match word {
+            "net" => Some("the net is named in line 1".to_string()),
+            "id" => Some(format!("each of the {n} bases has its line `id b v`")),
+            "faulty" if events => Some("faulty links are named before the first event".to_string()),
+            _ => None,
+        }
+    }
+
+    /// As many fields as the form asks, the first that is wrong.
+    fn fields(&self, word: &str, names: &[&str]) -> String {
+        for i in (1..=names.len()).filter(|&i| names[i - 1] != "hex") {
+            let value = self.word(i);
+            if value.is_empty() || !value.bytes().all(|byte| byte.is_ascii_digit()) {
+                return format!("{}, which is no decimal number", self.is(names, i));
+            }
+            if value.len() > 1 && value.starts_with('0') {
+                return format!("{}, with a leading zero", self.is(names, i));
+            }
+            if value.parse::<u32>().is_err() {
+                return format!("{}, above 4,294,967,295", self.is(names, i));
+            }
+        }
+        self.hex(word).unwrap_or_else(|| self.against_the_net(word, names))
+    }
+
+    fn hex(&self, word: &str) -> Option<String> {
+        let digits = self.word(3);
+        if word != "forge" {
+            return None;
+        }
+        if let Some(place) = digits.bytes().position(|byte| !matches!(byte, b'0'..=b'9' | b'a'..=b'f')) {
+            return Some(format!("digit {} of hex is not 0 to 9 or a to f", place + 1));
+        }
+        if digits.len() % 2 == 1 {
+            return Some(format!("hex has {} digits, and a byte has two", digits.len()));
+        }
+        (digits.len() / 2 > LONGEST_FORGERY).then(|| format!("hex has {} bytes, and 132 are the most", digits.len() / 2))
+    }
+
+    fn against_the_net(&self, word: &str, names: &[&str]) -> String {
+        let n = self.n();
+        if word == "id" {
+            return format!("{}, and this is the line of base {}", self.is(names, 1), self.number - 1);
+        }
+        for i in (1..=names.len()).filter(|&i| ["a", "b"].contains(&names[i - 1])) {
+            if !(1..=n).contains(&self.base(i)) {
+                return format!("{}, and the net has bases 1 to {n}", self.is(names, i));
+            }
+        }
+        match self.base(1).cmp(&self.base(2)) {
+            std::cmp::Ordering::Equal => "a and b are the same base".to_string(),
+            _ if word == "carry" => "k is 0, and broadcasts are numbered from 1".to_string(),
+            std::cmp::Ordering::Greater => "a is above b, and the smaller base comes first".to_string(),
+            _ => format!("line {} names that link", self.first(|line| *line == self.words.join(" "))),
+        }
+    }
+}
