@@ -4,14 +4,14 @@ use protocol::Leader;
 use protocol::Outcome;
 ghost use mathlib.Core.Path.{_≡_};
 ghost use lib.ListN.{length};
-ghost use Rattle.protocol.specs.Steps.{arrival, stepOf, outputOf, leaderAnswer};
+ghost use Rattle.protocol.specs.Steps.{arrival, leaderAnswer};
 ghost use Rattle.protocol.specs.Steps as Steps;
+ghost use Rattle.lent_calls.specs.InPlace.{InPlace, answerOf};
 
 // Starts an idle base. Turned down by 1 to 4 and 6.
 pub fn start(base: &mut Base, out: &mut [u8]) -> Outcome
-    ensures { λ r. ⌜ (r ≡ stepOf (Steps.start (now (base .entry)) (length (now (out .entry)))) .outcome)
-        × ((now (base .exit) ≡ stepOf (Steps.start (now (base .entry)) (length (now (out .entry)))) .base)
-        × (now (out .exit) ≡ outputOf (Steps.start (now (base .entry)) (length (now (out .entry)))) (now (out .entry)))) ⌝ }
+    ensures { λ r. ⌜ InPlace answerOf (Steps.start (now (base .entry)) (length (now (out .entry)))) r
+        (now (base .exit)) (now (out .entry)) (now (out .exit)) ⌝ }
 {
     let b = *base;
     let s = engine::start::start(b, out);
@@ -22,10 +22,8 @@ pub fn start(base: &mut Base, out: &mut [u8]) -> Outcome
 
 // A burst arrives on a link, 1 to n - 1. Turned down by 1 to 12.
 pub fn arrive(base: &mut Base, link: usize, burst: &[u8], out: &mut [u8]) -> Outcome
-    ensures { λ r. ⌜ (r ≡ stepOf (arrival (now (base .entry)) link (now (burst .entry)) (length (now (out .entry)))) .outcome)
-        × ((now (base .exit) ≡ stepOf (arrival (now (base .entry)) link (now (burst .entry)) (length (now (out .entry)))) .base)
-        × (now (out .exit)
-        ≡ outputOf (arrival (now (base .entry)) link (now (burst .entry)) (length (now (out .entry)))) (now (out .entry)))) ⌝ }
+    ensures { λ r. ⌜ InPlace answerOf (arrival (now (base .entry)) link (now (burst .entry)) (length (now (out .entry)))) r
+        (now (base .exit)) (now (out .entry)) (now (out .exit)) ⌝ }
 {
     let b = *base;
     let s = engine::arrival::arrive(b, link, burst, out);

@@ -14,7 +14,8 @@ ghost use mathlib.Core.Path.{_≡_};
 ghost use lib.ListN.{length};
 ghost use Rattle.writer.specs.Writing.{writtenOf, writeOutput};
 ghost use Rattle.reader.specs.Answers.{readingOf, stretch, idArray};
-ghost use Rattle.protocol.specs.Steps.{arrival, start, stepOf, outputOf, leaderAnswer};
+ghost use Rattle.protocol.specs.Steps.{arrival, start, leaderAnswer};
+ghost use Rattle.lent_calls.specs.InPlace.{InPlace, answerOf};
 ghost use Rattle.soundness.specs.Made.{madeOf};
 ghost use Rattle.schedule.specs.Report.{replayLength, replayOutput};
 ghost use Rattle.c_answers.specs.Numbers.{outcomeNumbers, leaderNumbers, writtenNumbers, readNumbers};
@@ -30,9 +31,8 @@ pub extern "C" fn roster_idle(n: usize, t: usize, own: u32) -> Made
 // Starts an idle base. Turned down by 1 to 4 and 6.
 #[no_mangle]
 pub extern "C" fn roster_start(base: &mut Base, out: &mut [u8]) -> CallAnswer
-    ensures { λ r. ⌜ (r ≡ outcomeNumbers (stepOf (start (now (base .entry)) (length (now (out .entry)))) .outcome))
-        × ((now (base .exit) ≡ stepOf (start (now (base .entry)) (length (now (out .entry)))) .base)
-        × (now (out .exit) ≡ outputOf (start (now (base .entry)) (length (now (out .entry)))) (now (out .entry)))) ⌝ }
+    ensures { λ r. ⌜ InPlace (λ d. outcomeNumbers (answerOf d)) (start (now (base .entry)) (length (now (out .entry)))) r
+        (now (base .exit)) (now (out .entry)) (now (out .exit)) ⌝ }
 {
     outcome_numbers(lent_calls::start(base, out))
 }
@@ -45,11 +45,9 @@ pub extern "C" fn roster_arrive(
     burst: &[u8],
     out: &mut [u8],
 ) -> CallAnswer
-    ensures { λ r.
-        ⌜ (r ≡ outcomeNumbers (stepOf (arrival (now (base .entry)) link (now (burst .entry)) (length (now (out .entry)))) .outcome))
-        × ((now (base .exit) ≡ stepOf (arrival (now (base .entry)) link (now (burst .entry)) (length (now (out .entry)))) .base)
-        × (now (out .exit)
-        ≡ outputOf (arrival (now (base .entry)) link (now (burst .entry)) (length (now (out .entry)))) (now (out .entry)))) ⌝ }
+    ensures { λ r. ⌜ InPlace (λ d. outcomeNumbers (answerOf d))
+        (arrival (now (base .entry)) link (now (burst .entry)) (length (now (out .entry)))) r
+        (now (base .exit)) (now (out .entry)) (now (out .exit)) ⌝ }
 {
     outcome_numbers(lent_calls::arrive(base, link, burst, out))
 }

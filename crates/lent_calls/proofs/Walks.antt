@@ -1,0 +1,4 @@
+pub mod Locals
+pub mod Plain
+pub mod Calls
+pub mod Types
