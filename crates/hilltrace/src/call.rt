@@ -13,6 +13,13 @@ use limits::OUTPUT_ROOM;
 use node::Node;
 use protocol::Base;
 
+// On which link a burst arrives, from which base or as if from it.
+pub(crate) struct Arrival {
+    pub from: u8,
+    pub link: usize,
+    pub forged: bool,
+}
+
 // The list and the leader of a base that stops.
 fn stop(b: u8, base: Base) {
     let list = base.final_list;
@@ -43,11 +50,14 @@ fn checked(b: u8, after: Base, made: usize, answer: CallAnswer, burst: &[u8], fr
     stop(b, after);
 }
 
-fn on_link(from: u8, link: usize, words: &[u8]) {
+fn on_link(arrival: Arrival, words: &[u8]) {
+    if arrival.forged {
+        output::text(b" as if");
+    }
     output::text(b" from base ");
-    output::number(from as usize);
+    output::number(arrival.from as usize);
     output::text(b" on link ");
-    output::number(link);
+    output::number(arrival.link);
     output::text(words);
 }
 
@@ -56,23 +66,23 @@ fn hears(b: u8, n: u8, burst: &[u8]) {
     say::message(n, burst);
 }
 
-fn refused(b: u8, from: u8, link: usize, length: usize, number: u8) {
+fn refused(b: u8, arrival: Arrival, length: usize, number: u8) {
     say::base(b, b" hears ");
     output::number(length);
     output::text(b" bytes");
-    on_link(from, link, b": refused by ");
+    on_link(arrival, b": refused by ");
     output::number(number as usize);
     output::text(b", ");
     causes::refused(number);
 }
 
-// The message, and why it is thrown away.
-fn discards(b: u8, base: Base, from: u8, link: usize, burst: &[u8]) {
+// The message, and why it is thrown aarrival.
+fn discards(b: u8, base: Base, arrival: Arrival, burst: &[u8]) {
     let taken = read_numbers(base.n as usize, burst);
     let ids = taken.ids;
     hears(b, base.n, burst);
-    on_link(from, link, b": discarded, ");
-    reason::discarded(base, link, taken.kind, ids[0]);
+    on_link(arrival, b": discarded, ");
+    reason::discarded(base, arrival.link, taken.kind, ids[0]);
 }
 
 // A start at base b.
@@ -97,30 +107,30 @@ pub(crate) fn start_call(b: u8, node: Node) {
 }
 
 // The message that was not refused.
-fn heard(b: u8, base: Base, from: u8, link: usize, accepted: bool, burst: &[u8]) {
+fn heard(b: u8, base: Base, arrival: Arrival, accepted: bool, burst: &[u8]) {
     if base.state == 0 {
         say::base(b, b" starts\n");
     }
     if accepted {
         hears(b, base.n, burst);
-        on_link(from, link, b": accepted\n");
+        on_link(arrival, b": accepted\n");
     } else {
-        discards(b, base, from, link, burst);
+        discards(b, base, arrival, burst);
     }
 }
 
-// A burst arrives at base b, on its link to a base.
-pub(crate) fn arrival_call(b: u8, node: Node, from: u8, link: usize, burst: &[u8]) {
+// A burst arrives at base b.
+pub(crate) fn arrival_call(b: u8, node: Node, arrival: Arrival, burst: &[u8]) {
     let base = node.base;
     let mut frames = [0u8; OUTPUT_ROOM];
-    let step = arrive(base, link, burst, &mut frames);
+    let step = arrive(base, arrival.link, burst, &mut frames);
     let outcome = step.outcome;
     let after = step.base;
     let answer = outcome_numbers(outcome);
     if answer.outcome == 0 {
-        return refused(b, from, link, burst.len(), answer.refusal);
+        return refused(b, arrival, burst.len(), answer.refusal);
     }
-    heard(b, base, from, link, answer.outcome == 1, burst);
+    heard(b, base, arrival, answer.outcome == 1, burst);
     broadcasts(b, after, node.count, answer, false, &frames);
     if answer.outcome == 1 {
         checked(b, after, node.count, answer, burst, &frames);

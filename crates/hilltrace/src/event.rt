@@ -1,5 +1,6 @@
 // The lines of events.
 use crate::call;
+use crate::call::Arrival;
 use crate::walk::Walk;
 use crate::walk::halt;
 use crate::walk::onward;
@@ -27,6 +28,15 @@ fn started(s: &[u8], walk: Walk, b: u8, next: usize) -> Walk {
     onward(walk, with_node(net, b, after), next)
 }
 
+// From base a to base b.
+fn arrival_from(a: u8, b: u8, forged: bool) -> Arrival {
+    Arrival {
+        from: a,
+        link: link_to(b, a),
+        forged,
+    }
+}
+
 // A refused carry, whose sender has broadcast so many messages.
 fn halt_carry(walk: Walk, refusal: u8, broadcasts: usize) -> Walk {
     let mut after = halt(walk, refusal);
@@ -46,7 +56,12 @@ fn carried(s: &[u8], walk: Walk, a: u8, b: u8, k: usize, next: usize) -> Walk {
     show_line(s, walk, next);
     let frame = broadcast(sender, k);
     let bytes = frame.bytes;
-    call::arrival_call(b, node, a, link_to(b, a), part(&bytes, 0, frame.len));
+    call::arrival_call(
+        b,
+        node,
+        arrival_from(a, b, false),
+        part(&bytes, 0, frame.len),
+    );
     let after = reached.node;
     onward(walk, with_node(net, b, after), next)
 }
@@ -62,7 +77,7 @@ fn forged(s: &[u8], walk: Walk, a: u8, b: u8, at: usize, count: usize, next: usi
         return halt(walk, reached.refusal);
     }
     show_line(s, walk, next);
-    call::arrival_call(b, node, a, link_to(b, a), part(&bytes, 0, count));
+    call::arrival_call(b, node, arrival_from(a, b, true), part(&bytes, 0, count));
     let after = reached.node;
     onward(walk, with_node(net, b, after), next)
 }

@@ -1,4 +1,5 @@
 // The figures of the checks, beside what they are held against.
+use crate::pairs::suspect_pairs;
 use crate::say;
 use certified::certified_count;
 use limits::MOST_BASES;
@@ -25,28 +26,36 @@ fn sum_asked(n: u8, t: u8) -> usize {
 // What the check made of the base.
 fn verdict(state: u8) {
     match state {
-        2 => output::text(b", prime\n"),
-        3 => output::text(b", secondary\n"),
-        _ => output::text(b", runs on\n"),
+        2 => output::text(b"; prime\n"),
+        3 => output::text(b"; secondary\n"),
+        _ => output::text(b"; runs on\n"),
     }
 }
 
 pub(crate) fn prime(b: u8, base: Base) {
+    let suspected = suspect_count(base);
     say::base(b, b", prime check: certified ");
-    say::of(certified_count(base), base.n as usize, b", sum ");
-    say::of(tally_sum(base), sum_asked(base.n, base.t), b", suspects ");
-    say::of(suspect_count(base), base.t as usize, b"");
+    say::needed(certified_count(base), base.n as usize, b"; sum ");
+    say::needed(tally_sum(base), sum_asked(base.n, base.t), b"; suspects ");
+    output::number(suspected);
+    output::text(b", at most ");
+    output::number(base.t as usize);
     verdict(base.state);
+    if 0 < suspected {
+        suspect_pairs(base);
+    }
 }
 
 // On the first n identifiers of v.
 pub(crate) fn secondary(b: u8, base: Base, v: [u32; MOST_BASES]) {
-    say::base(b, b", secondary check: tally ");
-    say::of(
+    say::base(b, b", secondary check of");
+    say::identifiers(v, base.n as usize);
+    output::text(b": tally ");
+    say::needed(
         list_tally(base, v),
         base.t as usize + 1,
-        b", Correct-Finals ",
+        b"; Correct-Finals ",
     );
-    say::of(correct_count(base, v), 2, b"");
+    say::needed(correct_count(base, v), 2, b"");
     verdict(base.state);
 }

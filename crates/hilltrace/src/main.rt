@@ -4,6 +4,7 @@ mod call;
 mod event;
 mod figures;
 mod frames;
+mod pairs;
 mod reason;
 mod say;
 mod walk;

@@ -16,11 +16,12 @@ pub(crate) fn base(b: u8, words: &[u8]) {
     text(words);
 }
 
-// A number, what it is held against, and words.
-pub(crate) fn of(v: usize, asked: usize, words: &[u8]) {
+// A number, how many are needed, and words.
+pub(crate) fn needed(v: usize, asked: usize, words: &[u8]) {
     number(v);
-    text(b" of ");
+    text(b", ");
     number(asked);
+    text(b" needed");
     text(words);
 }
 

@@ -14,6 +14,7 @@ pub mod compared;
 pub mod demand;
 pub mod engine;
 pub mod faults;
+pub mod figures;
 pub mod generate;
 pub mod guard;
 pub mod limits;

@@ -1,9 +1,11 @@
 //! What the trace program says became of each line, held against the model: accepted; discarded, and why; or turned down, by which number.
-//! The reasons are the model's own, put into the trace's words here; why a line is refused is worked out in `causes`.
+//! The reasons are the model's own, put into the trace's words here; `causes` works out why a line is refused, `figures` what a check
+//! counts.
 
 use crate::base::Base;
 use crate::causes;
 use crate::faults::Fault;
+use crate::figures;
 use crate::generate::{histories, schedules};
 use crate::limits::{link_to, LONGEST_SCHEDULE};
 use crate::model::Model;
@@ -38,8 +40,16 @@ const REASONS: [(Discard, &str); 7] = [
     (Discard::VectorMessageHeld, "the link holds a vector message"),
 ];
 
+/// A line with an event: what became of it, and what the trace says of the check behind it.
+#[derive(Debug, PartialEq, Eq)]
+struct Told {
+    line: usize,
+    outcome: Outcome,
+    check: Vec<String>,
+}
+
 /// The lines with an event, in order.
-type Outcomes = Vec<(usize, Outcome)>;
+type Outcomes = Vec<Told>;
 
 /// The stored schedules and as many made ones through the program. True where it says of every line what the model says, and every outcome
 /// came up.
@@ -86,8 +96,8 @@ impl Compared {
         let ending = ending(schedule);
         match traced(program, schedule).and_then(|trace| Ok((by_the_trace(&trace)?, ends_with(&trace, &ending)))) {
             Ok((theirs, true)) if theirs == ours => {
-                for (_, outcome) in ours {
-                    *self.counts.entry(outcome).or_default() += 1;
+                for told in ours {
+                    *self.counts.entry(told.outcome).or_default() += 1;
                 }
             }
             Ok((_, false)) => self.wrong.push(format!("{name}: the trace does not end with the model's {ending:?}")),
@@ -134,24 +144,31 @@ fn ends_with(trace: &str, ending: &[String]) -> bool {
 fn by_the_model(schedule: &[u8]) -> Outcomes {
     let mut outcomes = Vec::new();
     // A refused schedule has been watched up to its refused line.
-    let _ = replay::watched(schedule, Fault::None, &mut |line, net, event| outcomes.push((line, outcome(net, event))));
+    let _ = replay::watched(schedule, Fault::None, &mut |line, net, event| {
+        let (outcome, check) = outcome(net, event);
+        outcomes.push(Told { line, outcome, check });
+    });
     outcomes
 }
 
-fn outcome(net: &Net, event: &Event) -> Outcome {
+fn outcome(net: &Net, event: &Event) -> (Outcome, Vec<String>) {
     let at = event.receiver();
+    let refused = |number| (Outcome::Refused(number), Vec::new());
     let mut base = match Base::admit(&net.records[at - 1], Fault::None) {
         Ok(base) => base,
-        Err(number) => return Outcome::Refused(number),
+        Err(number) => return refused(number),
     };
     let (from, burst) = match event {
-        Event::Start { .. } => return base.start().discarded.map_or(Outcome::Accepted, Outcome::Discarded),
+        Event::Start { .. } => return (base.start().discarded.map_or(Outcome::Accepted, Outcome::Discarded), Vec::new()),
         Event::Carry { from, k, .. } => (*from, &net.logs[from - 1][k - 1]),
         Event::Forge { from, bytes, .. } => (*from, bytes),
     };
     match read(base.n, burst, Fault::None) {
-        Ok(frame) => base.arrive(link_to(at, from) - 1, frame.message).discarded.map_or(Outcome::Accepted, Outcome::Discarded),
-        Err(number) => Outcome::Refused(number),
+        Ok(frame) => match base.arrive(link_to(at, from) - 1, frame.message.clone()).discarded {
+            Some(reason) => (Outcome::Discarded(reason), Vec::new()),
+            None => (Outcome::Accepted, figures::told(at, &base, &frame.message)),
+        },
+        Err(number) => refused(number),
     }
 }
 
@@ -173,10 +190,15 @@ fn by_the_trace(trace: &str) -> Result<Outcomes, String> {
         if let Some((number, _)) = text.strip_prefix("line ").and_then(|rest| rest.split_once(": ")) {
             line = number.parse().map_err(|_| format!("no line of a schedule: {text}"))?;
         }
+        let is_check = text.contains(" check: ") || text.contains(" check of ") || text.starts_with("  suspect: ");
+        if let (true, Some(told)) = (is_check, outcomes.last_mut()) {
+            told.check.push(text.to_string());
+        }
         let Some(outcome) = text.strip_prefix("  base ").and_then(told_outcome) else { continue };
         // An idle base starts before it hears.
-        outcomes.retain(|&(before, _)| before != line);
-        outcomes.push((line, outcome.map_err(|reason| format!("the model knows no reason {reason:?}"))?));
+        outcomes.retain(|told| told.line != line);
+        let outcome = outcome.map_err(|reason| format!("the model knows no reason {reason:?}"))?;
+        outcomes.push(Told { line, outcome, check: Vec::new() });
     }
     Ok(outcomes)
 }

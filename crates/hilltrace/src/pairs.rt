@@ -1,0 +1,136 @@
+// The suspect pairs by their identifiers, and what makes each suspect: a link that lacks a Verify of the other.
+use certified::link_count;
+use held::has_announce;
+use held::holds_verify;
+use limits::MOST_LINKS;
+use output::number;
+use output::parts::plus;
+use output::text;
+use protocol::Base;
+use protocol::Link;
+
+// Pairs that are named: all of a net of four bases.
+const NAMED: usize = 6;
+
+// Link number i + 1.
+fn link_at(base: Base, i: usize) -> Link {
+    if MOST_LINKS <= i {
+        return base.links[0];
+    }
+    base.links[i]
+}
+
+// Whether a link that has an Announce lacks a Verify.
+fn lacks(link: Link, g: u32) -> bool {
+    if has_announce(link) {
+        return !holds_verify(link, g);
+    }
+    false
+}
+
+// `link 1 lacks Verify 120`
+fn lacking(i: usize, g: u32) {
+    text(b"link ");
+    number(plus(i, 1));
+    text(b" lacks Verify ");
+    number(g as usize);
+}
+
+// `310 and 120 (`, behind so many pairs
+fn pair(named: usize, g: u32, h: u32) {
+    if 0 < named {
+        text(b"; ");
+    }
+    number(g as usize);
+    text(b" and ");
+    number(h as usize);
+    text(b" (");
+}
+
+// The own identifier and that of a link: only the other's link is looked at. Answers how many pairs there are by now.
+fn own_pair(base: Base, i: usize, named: usize) -> usize {
+    let link = link_at(base, i);
+    if !lacks(link, base.own) {
+        return named;
+    }
+    if named < NAMED {
+        pair(named, base.own, link.announce);
+        lacking(i, base.own);
+        text(b")");
+    }
+    plus(named, 1)
+}
+
+fn told_pair(i: usize, one: Link, j: usize, other: Link, named: usize) {
+    pair(named, one.announce, other.announce);
+    if lacks(one, other.announce) {
+        lacking(i, other.announce);
+        if lacks(other, one.announce) {
+            text(b", ");
+        }
+    }
+    if lacks(other, one.announce) {
+        lacking(j, one.announce);
+    }
+    text(b")");
+}
+
+fn is_suspect(one: Link, other: Link) -> bool {
+    if !has_announce(one) {
+        return false;
+    }
+    if !has_announce(other) {
+        return false;
+    }
+    if lacks(one, other.announce) {
+        return true;
+    }
+    lacks(other, one.announce)
+}
+
+// The identifiers of two links.
+fn link_pair(base: Base, i: usize, j: usize, named: usize) -> usize {
+    let one = link_at(base, i);
+    let other = link_at(base, j);
+    if !is_suspect(one, other) {
+        return named;
+    }
+    if named < NAMED {
+        told_pair(i, one, j, other, named);
+    }
+    plus(named, 1)
+}
+
+// The pairs of a link with the own identifier and with the links before it.
+fn pairs_of(base: Base, i: usize, before: usize) -> usize {
+    let mut named = own_pair(base, i, before);
+    let mut j: usize = 0;
+    while j < i {
+        named = link_pair(base, j, i, named);
+        j += 1;
+    }
+    named
+}
+
+fn pairs(base: Base) -> usize {
+    let k = link_count(base.n);
+    let mut named: usize = 0;
+    let mut i: usize = 0;
+    while i < k {
+        named = pairs_of(base, i, named);
+        i += 1;
+    }
+    named
+}
+
+// Those of a base that has some.
+pub(crate) fn suspect_pairs(base: Base) {
+    text(b"  suspect: ");
+    let named = pairs(base);
+    if NAMED < named {
+        text(b"; and ");
+        number(named - NAMED);
+        text(b" more");
+    }
+    text(b"\n");
+}

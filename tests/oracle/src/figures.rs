@@ -1,0 +1,57 @@
+//! The figures of the checks in the trace's words, from what the model's base holds behind an accepted message.
+
+use crate::base::{Base, State};
+use crate::message::Message;
+
+/// Suspect pairs that the trace names.
+const NAMED: usize = 6;
+
+/// The lines about the check at base `at`.
+pub fn told(at: usize, base: &Base, message: &Message) -> Vec<String> {
+    let verdict = match base.state {
+        State::Prime(_) => "prime",
+        State::Secondary(_) => "secondary",
+        _ => "runs on",
+    };
+    match message {
+        Message::CorrectFinal(list) | Message::VerifyFinal(list) => {
+            let ids: Vec<String> = list.iter().map(u32::to_string).collect();
+            let (tally, corrects) = (base.list_tally(list), base.correct_finals(list));
+            let figures = format!("tally {tally}, {} needed; Correct-Finals {corrects}, 2 needed", base.t + 1);
+            vec![format!("  base {at}, secondary check of {}: {figures}; {verdict}", ids.join(" "))]
+        }
+        Message::Announce(_) | Message::Verify(_) => {
+            let (found, n, t) = (base.prime_figures(), base.n, base.t);
+            let sum = format!("sum {}, {} needed", found.sum, n * n - 2 * t);
+            let line = format!("certified {}, {n} needed; {sum}; suspects {}, at most {t}; {verdict}", found.certified, found.suspects);
+            std::iter::once(format!("  base {at}, prime check: {line}")).chain(suspects(base)).collect()
+        }
+    }
+}
+
+/// `  suspect: 310 and 120 (link 1 lacks Verify 120); ..`
+fn suspects(base: &Base) -> Option<String> {
+    let mut pairs = Vec::new();
+    for (i, link) in base.links.iter().enumerate() {
+        let Some(id) = link.announce else { continue };
+        if let Some(lacking) = lacks(base, i, base.own) {
+            pairs.push(format!("{} and {id} ({lacking})", base.own));
+        }
+        for (j, other) in base.links[..i].iter().enumerate().filter_map(|(j, before)| Some((j, before.announce?))) {
+            let lacking: Vec<String> = lacks(base, j, id).into_iter().chain(lacks(base, i, other)).collect();
+            if !lacking.is_empty() {
+                pairs.push(format!("{other} and {id} ({})", lacking.join(", ")));
+            }
+        }
+    }
+    let more = pairs.len().saturating_sub(NAMED);
+    pairs.truncate(NAMED);
+    if more > 0 {
+        pairs.push(format!("and {more} more"));
+    }
+    (!pairs.is_empty()).then(|| format!("  suspect: {}", pairs.join("; ")))
+}
+
+fn lacks(base: &Base, place: usize, id: u32) -> Option<String> {
+    (!base.links[place].verifies.contains(&id)).then(|| format!("link {} lacks Verify {id}", place + 1))
+}
