@@ -42,6 +42,10 @@ int main(void)
     roster_base base[BASES];
     uint8_t out[ROSTER_OUTPUT_ROOM];
 
+    if (roster_version() != ROSTER_VERSION)
+        return 1;
+    printf("version %u\n", (unsigned)roster_version());
+
     for (int b = 0; b < BASES; b++) {
         roster_made made = roster_idle(BASES, 0, own[b]);
         if (made.refusal != 0)

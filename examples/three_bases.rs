@@ -17,6 +17,8 @@ fn broadcast(air: &mut Air, from: usize, answer: &Answer, out: &[u8]) {
 }
 
 fn main() {
+    assert_eq!(roster::version(), roster::VERSION, "another library");
+    println!("version {}", roster::version());
     let mut out = [0u8; roster::OUTPUT_ROOM];
     let mut bases: Vec<Base> = Vec::new();
     let mut air: Air = Vec::new();

@@ -28,6 +28,7 @@ static void arrives(void) { roster_arrive(&base, link, burst, burst_length, out,
 static void leads(void) { roster_leader(&base); }
 static void reads(void) { roster_read(n, burst, burst_length); }
 static void writes(void) { burst_length = roster_write(n, kind, list, count, burst, sizeof burst).length; }
+static void versions(void) { roster_version(); }
 static void replays(void) { roster_replay(schedule, schedule_length, report, sizeof report); }
 
 /* A call, the most that it took, with what, and what it may take. */
@@ -42,7 +43,7 @@ static struct row rows[] = {
     {"roster_idle", idles, 0, ROSTER_STACK_IDLE, ""},       {"roster_start", starts, 0, ROSTER_STACK_START, ""},
     {"roster_arrive", arrives, 0, ROSTER_STACK_ARRIVE, ""}, {"roster_leader", leads, 0, ROSTER_STACK_LEADER, ""},
     {"roster_read", reads, 0, ROSTER_STACK_READ, ""},       {"roster_write", writes, 0, ROSTER_STACK_WRITE, ""},
-    {"roster_replay", replays, 0, ROSTER_STACK_REPLAY, ""},
+    {"roster_replay", replays, 0, ROSTER_STACK_REPLAY, ""}, {"roster_version", versions, 0, ROSTER_STACK_VERSION, ""},
 };
 
 static size_t used(void (*call)(void))
@@ -199,6 +200,7 @@ int main(int argc, char **argv)
     ends_prime();
     ends_secondary();
     refusals();
+    measure(versions, "a call");
     for (int i = 1; i < argc; i++)
         replay(argv[i]);
     for (size_t i = 0; i < sizeof rows / sizeof rows[0]; i++) {

@@ -168,6 +168,7 @@ int main(void)
     record();
     answers();
     nothing_lent();
+    check("version", roster_version(), ROSTER_VERSION);
     if (failures == 0)
         printf("layout: every field where the header has it; a link takes %zu bytes, a base %zu\n", sizeof(roster_link),
                sizeof(roster_base));

@@ -18,7 +18,11 @@ ghost use Rattle.protocol.specs.Steps.{arrival, start, leaderAnswer};
 ghost use Rattle.lent_calls.specs.InPlace.{InPlace, answerOf};
 ghost use Rattle.soundness.specs.Made.{madeOf};
 ghost use Rattle.schedule.specs.Report.{replayLength, replayOutput};
+ghost use Rattle.roster_c.specs.Version.{version};
 ghost use Rattle.c_answers.specs.Numbers.{outcomeNumbers, leaderNumbers, writtenNumbers, readNumbers};
+
+// ROSTER_VERSION of include/roster.h.
+const VERSION: u32 = 1;
 
 // An idle record from n, t and the own identifier. Turned down by 1 to 3.
 #[no_mangle]
@@ -84,4 +88,12 @@ pub extern "C" fn roster_replay(schedule: &[u8], out: &mut [u8]) -> usize
         × (now (out .exit) ≡ replayOutput (now (schedule .entry)) (now (out .entry))) ⌝ }
 {
     replay::replay(schedule, out)
+}
+
+// The version of the header that the library goes with.
+#[no_mangle]
+pub extern "C" fn roster_version() -> u32
+    ensures { λ r. ⌜ r ≡ version ⌝ }
+{
+    VERSION
 }

@@ -1,0 +1,5 @@
+-- The version of include/roster.h, which counts up with every change of a record, a call or a number there.
+use Prim.Native.Nat.{ℕ}
+
+abbrev pub version : ℕ
+version = 1
