@@ -11,7 +11,7 @@ use prog.Routine.{Env as Names}
 use prog.Wp.{Heap, Env, Calls, Loops, WpFn, Closed}
 use ghost.Atoms.{Atoms, sem}
 use contract.Monad.{Fun, fact}
-use contract.Lifetimes.{Lfts, Shares, toks}
+use contract.Lifetimes.{Lfts, Shares, AllOutlive, toks}
 use contract.Running.{Running, GhostRules, givenOf, tables, tablesOf}
 use types.Kit.{Given, Item, ‵, raw, some, later, _⊛_, _$_, _∵_, Go, !, qed, by, move, split, join, pick, use1, use2, show, frame, await}
 use types.Kit.{mean, Post, prop, runs, lands, Seq}
@@ -23,7 +23,7 @@ use denote.Signature.{typeAt, typesAt}
 use denote.Steps.{heard, said}
 use denote.Triple.Statement.{Contract, Triple}
 use denote.Triple.Call.{calls-at}
-use denote.Triple.Entry.{Res, alive, onEntry}
+use denote.Triple.Entry.{Args, Vals, Res, alive, onEntry}
 use denote.Triple.Bound.{passed}
 use denote.Triple.Spec.{Back, Meets, tripleOf}
 use denote.Triple.Table.{entered}
@@ -80,42 +80,50 @@ module _ {M : Type 1} (𝓤 : URA M) (H : Heap 𝓤) (A : Atoms 𝓤) (S : Ended
 
 module _ {M : Type 1} {𝓤 : URA M} {H : Heap 𝓤} {A : Atoms 𝓤} {K : Type 0} {W : Given 𝓤 H A} where
   -- a function that asks for nothing is called: φ is what its contract says of the answer and the last values
-  pub calls-by : K → {Γ : List (Item 𝓤)} {E : Env 𝓤 H} {C : Calls 𝓤 H} {Λ : Loops 𝓤 H} {q : Post 𝓤 H} {d : Place} {rest : Body}
-      → FmC 𝓤 H (W .laws) C
-      → (S : Ended) (c : Clauses 𝓤 S) {f : Name} → Triple 𝓤 (C f) (triple 𝓤 H A S c) → (y : triple 𝓤 H A S c .Ghost)
-      → ent 𝓤 (emp 𝓤) (requires 𝓤 H A S c y)
-      → {xs : List Operand} → Opds K W (raw (triple 𝓤 H A S c .pre y) ∷ Γ) E xs (passed 𝓤 H A (S .signature) (y .0))
+  pub calls-by : K → {Γ : List (Item 𝓤)}
+      {E : Env 𝓤 H} {C : Calls 𝓤 H} {Λ : Loops 𝓤 H} {q : Post 𝓤 H} {d : Place} {rest : Body} {f : Name} {xs : List Operand}
+      → FmC 𝓤 H (W .laws) C → (S : Ended) (c : Clauses 𝓤 S) → Triple 𝓤 (C f) (triple 𝓤 H A S c) → (κs : Lfts (S .signature .lifetimes))
+      (qs : Shares (S .signature .lifetimes))
+      (bounds : AllOutlive (S .signature .lifetimes) (S .signature .outlives) κs) (a : Args (S .signature) κs)
+      (vss : Vals (S .signature) κs) (g : c κs a .ghost) → let y : triple 𝓤 H A S c .Ghost = ((κs, qs, bounds, a, vss), g) in
+      ent 𝓤 (emp 𝓤) (requires 𝓤 H A S c y)
+      → Opds K W (raw (triple 𝓤 H A S c .pre y) ∷ Γ) E xs (passed 𝓤 H A (S .signature) (y .0))
       → (φ : Result 𝓤 H A S c y → Ends 𝓤 H A S c y → Type 0)
       → ((r : Result 𝓤 H A S c y) (ws : Ends 𝓤 H A S c y) → ent 𝓤 (ensures 𝓤 H A S c y r ws) (fact 𝓤 (φ r ws)))
       → ((v : Val) (r : Result 𝓤 H A S c y) (ws : Ends 𝓤 H A S c y) → φ r ws
       → Seq K W (‵ (answer 𝓤 H A S c y r v) ∷ ‵ (ends 𝓤 H A S c y ws) ∷ tokens 𝓤 H A S c y ∷ Γ) (lands C Λ E d v rest q))
       → Seq K W (tokens 𝓤 H A S c y ∷ ‵ (params 𝓤 H A S c y) ∷ Γ) (runs C Λ E (seq (call f xs d) rest) q)
-  calls-by t fm S c known y req os φ says k =
-      let P : SProp 𝓤 = onEntry 𝓤 H A (S .signature) (y .0 .0) (y .0 .1) (y .0 .3) (y .0 .4) in
+  calls-by t fm S c known κs qs bounds a vss g req os φ says k =
+      let y : triple 𝓤 H A S c .Ghost = ((κs, qs, bounds, a, vss), g) in
+      let P : SProp 𝓤 = onEntry 𝓤 H A (S .signature) κs qs a vss in
       let R : SProp 𝓤 = requires 𝓤 H A S c y in
       use2 W (raw (triple 𝓤 H A S c .pre y))
       (via 𝓤 P (entry 𝓤 H A S c y) (via 𝓤 (sep 𝓤 (emp 𝓤) P) (emp∗ 𝓤 P) (via 𝓤 (sep 𝓤 R P) (monoL 𝓤 P req) (comm∗ 𝓤 R P)))) $
       calls-at t fm (triple 𝓤 H A S c) known y os (λ v.
-      use1 W (later (some (λ (r : Result 𝓤 H A S c y). (raw (alive 𝓤 H A (S .signature) (y .0 .0) (y .0 .1)) ⊛ ‵ (answer 𝓤 H A S c y r v))
+      use1 W (later (some (λ (r : Result 𝓤 H A S c y). (raw (alive 𝓤 H A (S .signature) κs qs) ⊛ ‵ (answer 𝓤 H A S c y r v))
       ⊛ some (λ (ws : Ends 𝓤 H A S c y). ‵ (ends 𝓤 H A S c y ws) ⊛ raw (ensures 𝓤 H A S c y r ws))))) (id⊢ 𝓤 _) $
       await t tt $ pick t (λ r. split t $ move t (1 ∷ []) $ pick t (λ ws. split t $ move t (1 ∷ []) $
       use1 W (raw (fact 𝓤 (φ r ws))) (says r ws) $ heard t (φ r ws) (λ e. move t (1 ∷ []) $ split t $
-      use1 W (tokens 𝓤 H A S c y) (tokens-in 𝓤 H A (S .signature .lifetimes) (y .0 .0) (y .0 .1)) $ move t (1 ∷ 2 ∷ []) $ k v r ws e))))
+      use1 W (tokens 𝓤 H A S c y) (tokens-in 𝓤 H A (S .signature .lifetimes) κs qs) $ move t (1 ∷ 2 ∷ []) $ k v r ws e))))
 
-  -- the exit: the answer r at the machine value v, and the last values
-  pub ends-by : K → (S : Ended) (c : Clauses 𝓤 S) (y : triple 𝓤 H A S c .Ghost) (v : Val) (r : Result 𝓤 H A S c y) (ws : Ends 𝓤 H A S c y)
-      → ent 𝓤 (emp 𝓤) (ensures 𝓤 H A S c y r ws)
+  -- the exit, at the parameters' machine values vss: the answer r at the machine value v, and the last values
+  pub ends-by : K → (S : Ended) (c : Clauses 𝓤 S) (x : triple 𝓤 H A S c .Ghost) (vss : Vals (S .signature) (x .0 .0)) (v : Val)
+      (r : Result 𝓤 H A S c x) (ws : Ends 𝓤 H A S c x)
+      → let y : triple 𝓤 H A S c .Ghost = ((x .0 .0, x .0 .1, x .0 .2, x .0 .3, vss), x .1) in
+      ent 𝓤 (emp 𝓤) (ensures 𝓤 H A S c y r ws)
       → Seq K W (tokens 𝓤 H A S c y ∷ ‵ (answer 𝓤 H A S c y r v) ∷ ‵ (ends 𝓤 H A S c y ws) ∷ []) (prop (triple 𝓤 H A S c .post y v))
-  ends-by t S c y v r ws says = record {
-    prf = via 𝓤 _
-        (qed W (tokens 𝓤 H A S c y ∷ ‵ (answer 𝓤 H A S c y r v) ∷ ‵ (ends 𝓤 H A S c y ws) ∷ []) ∵
-        show ! (λ (r′ : Result 𝓤 H A S c y).
-        sep 𝓤 (Back 𝓤 H A (S .signature) (y .0) v r′) (ensured 𝓤 H A S c (y .0 .0) (y .0 .3) (y .1) r′)) r $
-        use1 W (raw (alive 𝓤 H A (S .signature) (y .0 .0) (y .0 .1))) (tokens-out 𝓤 H A (S .signature .lifetimes) (y .0 .0) (y .0 .1)) $
-        join ! $ frame ! $ show ! (λ (us : Ends 𝓤 H A S c y). sep 𝓤 (sem 𝓤 H A (ends 𝓤 H A S c y us)) (ensures 𝓤 H A S c y r us)) ws $
-        frame ! $ by ! says)
-        (W .laws .⇛-intro _);
-  }
+  ends-by t S c x vss v r ws says =
+      let y : triple 𝓤 H A S c .Ghost = ((x .0 .0, x .0 .1, x .0 .2, x .0 .3, vss), x .1) in
+      record {
+        prf = via 𝓤 _
+            (qed W (tokens 𝓤 H A S c y ∷ ‵ (answer 𝓤 H A S c y r v) ∷ ‵ (ends 𝓤 H A S c y ws) ∷ []) ∵
+            show ! (λ (r′ : Result 𝓤 H A S c y).
+            sep 𝓤 (Back 𝓤 H A (S .signature) (y .0) v r′) (ensured 𝓤 H A S c (y .0 .0) (y .0 .3) (y .1) r′)) r $
+            use1 W (raw (alive 𝓤 H A (S .signature) (y .0 .0) (y .0 .1)))
+            (tokens-out 𝓤 H A (S .signature .lifetimes) (y .0 .0) (y .0 .1)) $ join ! $ frame ! $
+            show ! (λ (us : Ends 𝓤 H A S c y). sep 𝓤 (sem 𝓤 H A (ends 𝓤 H A S c y us)) (ensures 𝓤 H A S c y r us)) ws $ frame ! $ by ! says)
+            (W .laws .⇛-intro _);
+      }
 
 -- the whole: a walk from the entry, with the parameters' machine values written out and their relations in hand, meets the contract
 module _ {M : Type 1} (𝓤 : URA M) (H : Heap 𝓤) (A : Atoms 𝓤) (W : Given 𝓤 H A) (S : Ended) (c : Clauses 𝓤 S) (run : Fun 𝓤)

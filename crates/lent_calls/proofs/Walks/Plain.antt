@@ -15,7 +15,7 @@ use ghost.Atoms.{Atoms}
 use types.Kit.{Given, Item, ‵, _⊛_, _$_, split, move, drop, use1, fsplit, fsplit3, fjoin, join, Post, Goal, Soaks, lands, Seq, Step, step}
 use types.SemTy.{Body as Lent}
 use denote.RattleType.{RattleType}
-use denote.Laws.{Is, shows, Tells, Makes, Lawful}
+use denote.Laws.{Is, shows, Tells, Makes, Lawful, Typed}
 use denote.Memory.{mem, cellAt}
 use denote.Builtin.{u8}
 use denote.Ref.{RefT}
@@ -53,6 +53,10 @@ of-enum D L pl few = record {
   lawful = λ 𝓤 H A W. enum-laws.lawful D L 𝓤 H A W few;
   makes = λ 𝓤 H A. enum-laws.makes D pl 𝓤 H A;
 }
+
+pub typed : {M : Type 1} {𝓤 : URA M} {H : Heap 𝓤} {A : Atoms 𝓤} (W : Given 𝓤 H A) (P : Plain) (x : P .row .Denot)
+    → Is (P .row) x (P .val x ∷ []) → Typed (P .row .mir) (P .val x ∷ [])
+typed {M} {𝓤} {H} {A} W P x is = P .lawful 𝓤 H A W .typed x (P .val x ∷ []) is
 
 -- what a slice of bytes is in memory is of its type
 pub slice-typed : (x : RefT (List ℕ)) → Room u8 (length (x .now))

@@ -24,7 +24,7 @@ use Rattle.c_answers.specs.Numbers.{leaderNumbers}
 use Rattle.c_answers.proofs.LeaderAnswer as N
 use Rattle.c_answers.proofs.LeaderAnswer.Laws as N′
 use Rattle.lent_calls.proofs.Walks.Locals.{enters, held, sets, puts, free-all}
-use Rattle.lent_calls.proofs.Walks.Plain.{Plain, of-struct, takes, gets}
+use Rattle.lent_calls.proofs.Walks.Plain.{Plain, of-struct, typed, takes, gets}
 use Rattle.lent_calls.proofs.Walks.Calls.{triple, calls-by, ends-by, meets-by, proved}
 use Rattle.lent_calls.proofs.Walks.Types.{base-type, leader-type}
 use Rattle.lent_calls.proofs.leader as entry
@@ -55,19 +55,19 @@ module _ {M : Type 1} (𝓤 : URA M) (H : Heap 𝓤) (A : Atoms 𝓤) (W : Given
       -- [_3; …; _0; …; the tokens; the parameters]
       sets ! (addr ! (from ! (hop ! (look ! 4 refl) (stop !)))) 0 refl (tt, tt) $
       move ! (8 ∷ 9 ∷ []) $ calls-by ! fm entry.ended
-      (entry.clauses 𝓤 H A at run) entry-known ((y .0 .0, y .0 .1, y .0 .2, y .0 .3, (ptr-vals b, tt)), y .1) (id⊢ 𝓤 _)
+      (entry.clauses 𝓤 H A at run) entry-known (y .0 .0) (y .0 .1) (y .0 .2) (y .0 .3) (ptr-vals b, tt) (y .1) (id⊢ 𝓤 _)
       (and-then ! (held ! 1 refl) (no-more !))
       (λ r ws. (r ≡ leaderAnswer (b .now)) × (ws .0 ≡ b .now)) (λ r ws. id⊢ 𝓤 _) (λ v r ws e. takes ! leader-type r v (λ is.
       -- [the last values; the tokens; _3; …]
-      puts ! 4 refl (leader-type .lawful 𝓤 H A W .typed r _ is .0) $ nothing ! $ gets ! leader-type r is $ fjoin ! $ nothing ! $
+      puts ! 4 refl (typed W leader-type r is .0) $ nothing ! $ gets ! leader-type r is $ fjoin ! $ nothing ! $
       calls-by ! fm numbers.ended
-      (numbers.clauses 𝓤 H A at run) numbers-known ((tt, tt, tt, (r, tt), (leader-type .val r ∷ [], tt)), tt) (id⊢ 𝓤 _)
+      (numbers.clauses 𝓤 H A at run) numbers-known tt tt tt (r, tt) (leader-type .val r ∷ [], tt) tt (id⊢ 𝓤 _)
       (and-then ! (held ! 5 refl) (no-more !))
       (λ a us. a ≡ leaderNumbers r) (λ a us. id⊢ 𝓤 _) (λ w a us n. takes ! answer-type a w (λ its.
       -- [no last value; no token; the last values; the tokens; _3; …]
-      puts ! 10 refl (answer-type .lawful 𝓤 H A W .typed a _ its .0) $ drop ! $ drop ! $
+      puts ! 10 refl (typed W answer-type a its .0) $ drop ! $ drop ! $
       returns ! (look ! 8 refl) $ free-all ! (_ ∷ _ ∷ []) (_ ∷ _ ∷ _ ∷ _ ∷ []) [] $ gets ! answer-type a its $ move ! (2 ∷ 0 ∷ []) $
-      ends-by ! f.ended (f.clauses 𝓤 H A at run) ((y .0 .0, y .0 .1, y .0 .2, y .0 .3, (ptr-vals b, tt)), y .1) _ a ws
+      ends-by ! f.ended (f.clauses 𝓤 H A at run) y (ptr-vals b, tt) _ a ws
       (factI 𝓤 _ (emp 𝓤) (n ∙ ap leaderNumbers (e .0), e .1))))))))
 
 pub roster-leader-spec : {M : Type 1} → stated.statement M
