@@ -11,7 +11,7 @@ struct sent {
     size_t length;
     uint8_t bytes[ROSTER_LONGEST_FRAME];
 };
-static struct sent air[BASES * (BASES + 3)];
+static struct sent air[BASES * ROSTER_MOST_BROADCASTS(BASES)];
 static int count;
 
 static void broadcast(int from, const uint8_t *out, size_t length)
@@ -28,12 +28,27 @@ static int keep(int from, const uint8_t *out, roster_answer answer)
 {
     if (answer.outcome == ROSTER_REFUSED) {
         fprintf(stderr, "base %d: turned down by %d\n", from, answer.refusal);
-        return 1;
+        /* a damaged burst is dropped; any other number is a mistake of ours */
+        return answer.refusal < ROSTER_REFUSAL_BURST;
     }
     broadcast(from, out, answer.first);
     broadcast(from, out + answer.first, answer.second);
     broadcast(from, out + answer.first + answer.second, answer.third);
     return 0;
+}
+
+/* The list and the leader stand once the base has stopped, and not before. */
+static void show(int number, roster_base *base)
+{
+    roster_named named = roster_leader(base);
+    if (named.outcome != ROSTER_LEADER_NAMED) {
+        printf("base %d has not stopped\n", number);
+        return;
+    }
+    printf("base %d", number);
+    for (int i = 0; i < BASES; i++)
+        printf(" %u", (unsigned)base->final_list[i]);
+    printf(" leader %u\n", (unsigned)named.leader);
 }
 
 int main(void)
@@ -62,11 +77,10 @@ int main(void)
                 if (keep(b, out, roster_arrive(&base[b - 1], link, air[k].bytes, air[k].length, out, sizeof out)))
                     return 1;
             }
-    for (int b = 0; b < BASES; b++) {
-        printf("base %d", b + 1);
-        for (int i = 0; i < BASES; i++)
-            printf(" %u", (unsigned)base[b].final_list[i]);
-        printf(" leader %u\n", (unsigned)roster_leader(&base[b]).leader);
-    }
+    /* noise on a link: no base may stop over it */
+    if (keep(1, out, roster_arrive(&base[0], 1, (const uint8_t *)"noise", 5, out, sizeof out)))
+        return 1;
+    for (int b = 0; b < BASES; b++)
+        show(b + 1, &base[b]);
     return 0;
 }

@@ -10,9 +10,12 @@ const BASES: usize = 3;
 /// Every frame that was broadcast, with its sender, in the order written.
 type Air = Vec<(usize, Vec<u8>)>;
 
-/// Whatever the answer, its frames go out on every link.
+/// Accepted or discarded, the answer's frames go out on every link. A damaged burst is dropped; any other number is a mistake of ours.
 fn broadcast(air: &mut Air, from: usize, answer: &Answer, out: &[u8]) {
-    assert_eq!(answer.refusal, 0, "turned down");
+    if answer.outcome == roster::REFUSED {
+        eprintln!("base {from}: turned down by {}", answer.refusal);
+        assert!(answer.refusal >= roster::REFUSAL_BURST);
+    }
     air.extend(roster::frames(answer, out).map(|frame| (from, frame.to_vec())));
 }
 
@@ -39,8 +42,20 @@ fn main() {
         }
         k += 1;
     }
+    // noise on a link: no base may stop over it
+    let answer = roster::arrive(&mut bases[0], 1, b"noise", &mut out);
+    broadcast(&mut air, 1, &answer, &out);
     for (i, base) in bases.iter_mut().enumerate() {
-        let list: Vec<String> = base.final_list[..BASES].iter().map(u32::to_string).collect();
-        println!("base {} {} leader {}", i + 1, list.join(" "), roster::leader(base).leader);
+        show(i + 1, base);
     }
+}
+
+/// The list and the leader stand once the base has stopped, and not before.
+fn show(number: usize, base: &mut Base) {
+    let named = roster::leader(base);
+    if named.outcome != roster::LEADER_NAMED {
+        return println!("base {number} has not stopped");
+    }
+    let list: Vec<String> = base.final_list[..BASES].iter().map(u32::to_string).collect();
+    println!("base {number} {} leader {}", list.join(" "), named.leader);
 }

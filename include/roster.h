@@ -1,22 +1,30 @@
 /* A roster agreed by bases over faulty links: one base's engine, its frames, and the replay of a whole net.
  *
- * Linking. libroster_c.a is for x86-64; `rt staticlib roster_c` writes it to target/staticlib/. It takes memcpy and memset from the
- * platform and nothing else: no other library, no heap, no state of its own. Different records may be used by different threads at the
- * same time.
+ * docs/HOW-A-BASE-DECIDES.md lists what an integrator has to do, step by step.
+ *
+ * Linking. libroster_c.a is for x86-64 with the System V calling convention: the stack is aligned to 16 bytes at a call, SSE2 is on, and
+ * the 128 bytes below the stack pointer are in use (an interrupt needs a stack of its own). `rt staticlib roster_c` writes it to
+ * target/staticlib/. It takes memcpy and memset from the platform and nothing else: no other library, no heap, no state of its own.
+ * Different records may be used by different threads at the same time.
  *
  * What is lent. A call reads and writes what it is lent and nothing else. A pointer has to be valid for the length given with it, and
  * may be NULL where that length is 0. Records and lists of identifiers are aligned as C aligns them; bytes need no alignment. What is
- * lent to one call must not overlap.
+ * lent to one call must not overlap. Start and arrive store the whole record, the same bytes where nothing changes: it lies in writable
+ * memory, one call at a time, and nobody reads it meanwhile.
  *
  * What is not fit. No caller has to test anything first: what is not fit is turned down by its number (enum roster_refusal), and a call
- * that is turned down changes nothing and starts nobody.
+ * that is turned down changes nothing and starts nobody. 1 to 6 are mistakes around the library; 7 to 12 are damaged bursts: drop them.
  *
- * What to do with an answer. The frames of an answer stand one after another at the front of the output. Send each of them on every
- * link of the base: after a start as after an arrival, where the answer is discarded as where it is accepted, and also after the base
- * has stopped. (An idle base starts on its first arrival, and the two frames of its start are answered even if that arrival is
- * discarded.)
+ * What to do with an answer. The frames of an answer stand one after another at the front of the output. Send each of them, as a burst
+ * of its own, on every link of the base: after a start as after an arrival, where the answer is discarded as where it is accepted. (An
+ * idle base starts on its first arrival, and the two frames of its start are answered even if that arrival is discarded.) Of two frames
+ * in one burst the first is skipped as what stands before a frame, and no number tells. Order and repeats do no harm.
  *
- * A base has stopped once its state is prime or secondary; only then does it have a final list and a leader.
+ * A base has stopped once its state is prime or secondary; only then does it have a final list and a leader. Send the frames of the
+ * answer with which it stops as well: others need its Correct-Final. After that it discards every fit burst and has nothing to send.
+ *
+ * Keep the record, the frames that are not yet sent, and ROSTER_VERSION beside them, through a loss of power: a base that forgets its
+ * record and starts again in the same net is outside everything that was proved.
  */
 #ifndef ROSTER_H
 #define ROSTER_H
@@ -35,6 +43,8 @@ extern "C" {
 #define ROSTER_FEWEST_BASES 2
 #define ROSTER_MOST_BASES 16
 #define ROSTER_MOST_LINKS (ROSTER_MOST_BASES - 1)
+#define ROSTER_MOST_FAULTY(n) (((n) - 2) / 2)       /* the most that t may be in a net of n */
+#define ROSTER_MOST_BROADCASTS(n) ((n) + 3)         /* frames that a base of a net of n broadcasts in its life */
 #define ROSTER_LIST_ROOM (ROSTER_MOST_BASES + 1)    /* Verify identifiers that a link has room for */
 #define ROSTER_FRAME_BYTES(count) (4 * (count) + 4) /* of a frame of so many identifiers */
 #define ROSTER_LONGEST_FRAME ROSTER_FRAME_BYTES(ROSTER_MOST_BASES)
@@ -45,7 +55,8 @@ extern "C" {
 #define ROSTER_LINE_ROOM (37 + 11 * ROSTER_MOST_BASES)                  /* bytes for any line of a report */
 #define ROSTER_REPORT_ROOM ((ROSTER_MOST_BASES + 1) * ROSTER_LINE_ROOM) /* bytes to lend to roster_replay */
 
-/* The most stack that a call takes, in bytes, with what its answer takes in the caller. tests/figures measures it and holds it to this. */
+/* The most stack that a call takes, in bytes, with what its answer takes in the caller, and besides what memcpy and memset take.
+ * tests/figures measures it and holds it to this. */
 #define ROSTER_STACK_IDLE 5000
 #define ROSTER_STACK_START 12000
 #define ROSTER_STACK_ARRIVE 24000
@@ -138,30 +149,47 @@ typedef struct roster_put {
     size_t length;   /* of the frame; zero where the call was turned down */
 } roster_put;
 
-/* An idle record. Turned down by 1 to 3. */
+/* An answer that is not looked at loses the frames or the refusal. */
+#if defined(__GNUC__)
+#define ROSTER_LOOK_AT __attribute__((warn_unused_result))
+#else
+#define ROSTER_LOOK_AT
+#endif
+
+/* An idle record of a base in a net of n bases that bears t faulty links, at most ROSTER_MOST_FAULTY(n): both are the same at every base.
+ * Its own identifier is above zero and different at each base. Turned down by 1 to 3. */
+ROSTER_LOOK_AT
 roster_made roster_idle(size_t n, size_t t, uint32_t own);
 
 /* Starts an idle base: Announce and Verify of its own identifier are broadcast. At any other state discarded. Turned down by 1 to 4 and
  * 6. Touches the record and the frames' bytes at the front of the output. */
+ROSTER_LOOK_AT
 roster_answer roster_start(roster_base *base, uint8_t *out, size_t out_length);
 
-/* A burst arrives on a link, 1 to n - 1: link k of base b goes to base k if k < b, else to base k + 1. An idle base starts first.
- * Turned down by 1 to 12. Touches the record and the frames' bytes at the front of the output. */
+/* A burst arrives on a link, 1 to n - 1. Number the bases once for the net, from 1 to n; no call asks for a base's number b, but its link
+ * k goes to base k if k < b, else to base k + 1. An idle base starts first. Turned down by 1 to 12. Touches the record and the frames'
+ * bytes at the front of the output. */
+ROSTER_LOOK_AT
 roster_answer roster_arrive(roster_base *base, size_t link, const uint8_t *burst, size_t burst_length, uint8_t *out, size_t out_length);
 
-/* The leader that a stopped base, prime or secondary, names. Turned down by 1 to 4. Touches nothing. */
+/* The leader that a stopped base, prime or secondary, names. Turned down by 1 to 4. Touches nothing; the record is not const because it
+ * is lent alone, as to the other calls. */
+ROSTER_LOOK_AT
 roster_named roster_leader(roster_base *base);
 
 /* The message of a burst in a net of n; what stands before the frame is skipped. Turned down by 1 and 7 to 12. */
+ROSTER_LOOK_AT
 roster_taken roster_read(size_t n, const uint8_t *burst, size_t burst_length);
 
 /* The frame of a message in a net of n. Turned down by 1, 6 (the output is shorter than the frame), 8, 9, 11 and 12. Touches the
  * frame's bytes at the front of the output. */
+ROSTER_LOOK_AT
 roster_put roster_write(size_t n, uint8_t kind, const uint32_t *ids, size_t id_count, uint8_t *out, size_t out_length);
 
 /* The report of a schedule, as hillreplay prints it; its length. A schedule that is refused has the report "refused N line L". An
  * output with less than ROSTER_REPORT_ROOM bytes is left alone, and the length is 0. Touches the report's bytes at the front of the
  * output. */
+ROSTER_LOOK_AT
 size_t roster_replay(const uint8_t *schedule, size_t schedule_length, uint8_t *out, size_t out_length);
 
 /* The library's ROSTER_VERSION. */

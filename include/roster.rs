@@ -1,5 +1,6 @@
 //! libroster_c.a for Rust: the sizes, numbers, records and calls of roster.h, and each call with slices. Bring it in as a module
-//! (`#[path = "../include/roster.rs"] mod roster;`) and link the library (`rustc base.rs -L target/staticlib -l static=roster_c`).
+//! (`#[path = "include/roster.rs"] mod roster;`, from where that file lies) and link the library
+//! (`rustc --edition 2021 base.rs -L target/staticlib -l static=roster_c`).
 //!
 //! What a call does, touches and is turned down by stands in roster.h. tests/layout holds the two files against each other.
 
@@ -18,6 +19,26 @@ pub const LONGEST_BURST: usize = LONGEST_FRAME + 64;
 pub const LONGEST_SCHEDULE: usize = 65536;
 pub const LINE_ROOM: usize = 37 + 11 * MOST_BASES;
 pub const REPORT_ROOM: usize = (MOST_BASES + 1) * LINE_ROOM;
+
+/// The most stack that a call takes, in bytes.
+pub const STACK_IDLE: usize = 5000;
+pub const STACK_START: usize = 12000;
+pub const STACK_ARRIVE: usize = 24000;
+pub const STACK_LEADER: usize = 12000;
+pub const STACK_READ: usize = 1000;
+pub const STACK_WRITE: usize = 1000;
+pub const STACK_REPLAY: usize = 420000;
+pub const STACK_VERSION: usize = 200;
+
+/// The most that t may be in a net of n.
+pub const fn most_faulty(n: usize) -> usize {
+    (n - 2) / 2
+}
+
+/// Frames that a base of a net of n broadcasts in its life.
+pub const fn most_broadcasts(n: usize) -> usize {
+    n + 3
+}
 
 /// Of a frame of so many identifiers.
 pub const fn frame_bytes(count: usize) -> usize {
@@ -134,7 +155,7 @@ pub struct Put {
     pub length: usize,
 }
 
-extern "C" {
+unsafe extern "C" {
     fn roster_idle(n: usize, t: usize, own: u32) -> Made;
     fn roster_start(base: *mut Base, out: *mut u8, out_length: usize) -> Answer;
     fn roster_arrive(base: *mut Base, link: usize, burst: *const u8, burst_length: usize, out: *mut u8, out_length: usize) -> Answer;
@@ -148,42 +169,58 @@ extern "C" {
 // Safety, of every call below: each pointer comes from a reference or a slice that outlives the call, with that slice's length, and the
 // borrow checker keeps what is lent to one call apart.
 
+/// An idle record of a base in a net of n bases that bears t faulty links.
 #[inline]
+#[must_use]
 pub fn idle(n: usize, t: usize, own: u32) -> Made {
     unsafe { roster_idle(n, t, own) }
 }
 
+/// Starts an idle base. Send every frame of the answer ([`frames`]) on every link.
 #[inline]
+#[must_use]
 pub fn start(base: &mut Base, out: &mut [u8]) -> Answer {
     unsafe { roster_start(base, out.as_mut_ptr(), out.len()) }
 }
 
+/// A burst arrives on a link, 1 to n - 1. Send every frame of the answer ([`frames`]) on every link.
 #[inline]
+#[must_use]
 pub fn arrive(base: &mut Base, link: usize, burst: &[u8], out: &mut [u8]) -> Answer {
     unsafe { roster_arrive(base, link, burst.as_ptr(), burst.len(), out.as_mut_ptr(), out.len()) }
 }
 
+/// The leader that a stopped base names.
 #[inline]
+#[must_use]
 pub fn leader(base: &mut Base) -> Named {
     unsafe { roster_leader(base) }
 }
 
+/// The message of a burst in a net of n.
 #[inline]
+#[must_use]
 pub fn read(n: usize, burst: &[u8]) -> Taken {
     unsafe { roster_read(n, burst.as_ptr(), burst.len()) }
 }
 
+/// The frame of a message in a net of n, at the front of the output.
 #[inline]
+#[must_use]
 pub fn write(n: usize, kind: u8, ids: &[u32], out: &mut [u8]) -> Put {
     unsafe { roster_write(n, kind, ids.as_ptr(), ids.len(), out.as_mut_ptr(), out.len()) }
 }
 
+/// The report of a schedule, as hillreplay prints it; its length.
 #[inline]
+#[must_use]
 pub fn replay(schedule: &[u8], out: &mut [u8]) -> usize {
     unsafe { roster_replay(schedule.as_ptr(), schedule.len(), out.as_mut_ptr(), out.len()) }
 }
 
+/// The library's `VERSION`.
 #[inline]
+#[must_use]
 pub fn version() -> u32 {
     unsafe { roster_version() }
 }
@@ -191,7 +228,8 @@ pub fn version() -> u32 {
 /// The frames of an answer, in the order written, from the output that was lent to its call.
 pub fn frames<'o>(answer: &Answer, out: &'o [u8]) -> impl Iterator<Item = &'o [u8]> {
     let mut rest = out;
-    [answer.first, answer.second, answer.third].into_iter().filter(|&length| length > 0).map(move |length| {
+    let lengths = [answer.first, answer.second, answer.third];
+    IntoIterator::into_iter(lengths).filter(|&length| length > 0).map(move |length| {
         let (frame, behind) = rest.split_at(length);
         rest = behind;
         frame
