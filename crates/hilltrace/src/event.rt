@@ -1,6 +1,4 @@
 // The lines of events.
-use crate::call;
-use crate::call::Arrival;
 use crate::walk::Walk;
 use crate::walk::halt;
 use crate::walk::onward;
@@ -14,6 +12,8 @@ use node::log::broadcast;
 use numbering::link_to;
 use output::parts::part;
 use text::hex::hex_bytes;
+use trace::call;
+use trace::call::Arrival;
 
 fn started(s: &[u8], walk: Walk, b: u8, next: usize) -> Walk {
     let net = walk.net;

@@ -1,12 +1,6 @@
 // Shows a schedule of standard input line by line: what each event did, what was broadcast, and the figures of the checks, and why a
 // line is refused; then the report, as hillreplay prints it. What goes wrong on the way is said on standard error, in one line.
-mod call;
 mod event;
-mod figures;
-mod frames;
-mod pairs;
-mod reason;
-mod say;
 mod walk;
 
 use crate::walk::Walk;

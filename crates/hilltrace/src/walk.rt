@@ -1,5 +1,4 @@
 // How far a schedule is shown: up to its end, or to the line that is refused.
-use crate::say;
 use limits::refusal::FORM;
 use lines::bases::Two;
 use lines::header::faulty_line;

@@ -2,6 +2,8 @@
 pub mod parts;
 
 use libc::STDOUT_FILENO;
+ghost use mathlib.Core.Path.{_≡_};
+ghost use Rattle.output.specs.Parts.{printing};
 
 pub fn text(words: &[u8]) {
     io::write_all(STDOUT_FILENO, words);
@@ -12,7 +14,9 @@ pub fn number(v: usize) {
 }
 
 // Whether a byte is seen where it is written: a space and the signs of ASCII.
-pub fn prints(b: u8) -> bool {
+pub fn prints(b: u8) -> bool
+    ensures { λ r. ⌜ r ≡ printing b ⌝ }
+{
     if b < b' ' {
         return false;
     }

@@ -1,7 +1,13 @@
 // Parts of slices and sums of places, for any numbers.
+ghost use mathlib.Core.Path.{_≡_};
+ghost use Rattle.output.specs.Parts.{partOf, lineLength, placeBehind, byteOf};
+
+const LAST_PLACE: usize = 18446744073709551615;
 
 // The len bytes of s from a place on, as far as there are so many.
-pub fn part<'a>(s: &'a [u8], from: usize, len: usize) -> &'a [u8] {
+pub fn part<'a>(s: &'a [u8], from: usize, len: usize) -> &'a [u8]
+    ensures { λ r. ⌜ now r ≡ partOf (now (s .entry)) from len ⌝ }
+{
     if s.len() < from {
         return &s[0..0];
     }
@@ -13,7 +19,9 @@ pub fn part<'a>(s: &'a [u8], from: usize, len: usize) -> &'a [u8] {
 }
 
 // The bytes from a place up to the line feed before another.
-pub fn between(at: usize, next: usize) -> usize {
+pub fn between(at: usize, next: usize) -> usize
+    ensures { λ r. ⌜ r ≡ lineLength at next ⌝ }
+{
     if next <= at {
         return 0;
     }
@@ -21,17 +29,18 @@ pub fn between(at: usize, next: usize) -> usize {
 }
 
 // A place further on.
-pub fn plus(at: usize, by: usize) -> usize {
-    if 65536 < at {
-        return at;
-    }
-    if 65536 < by {
-        return at;
+pub fn plus(at: usize, by: usize) -> usize
+    ensures { λ r. ⌜ r ≡ placeBehind at by ⌝ }
+{
+    if LAST_PLACE - at < by {
+        return LAST_PLACE;
     }
     at + by
 }
 
-pub fn byte(v: u32) -> u8 {
+pub fn byte(v: u32) -> u8
+    ensures { λ r. ⌜ r ≡ byteOf v ⌝ }
+{
     if 255 < v {
         return 255;
     }

@@ -1,4 +1,4 @@
-// Why a message was thrown away.
+// Why a message is discarded.
 use crate::say;
 use certified::certifies;
 use held::has_announce;

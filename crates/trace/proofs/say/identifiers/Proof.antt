@@ -1,8 +1,8 @@
 -- The loop stays within the array.
 use Prim.Native.Nat.{_≤_, _-_}
 use borrow.Author.Needs.{needs}
-use Rattle.hilltrace.proofs.say.identifiers.Statement.{statement}
-use Rattle.hilltrace.proofs.say.identifiers.Tie as tie
+use Rattle.trace.proofs.say.identifiers.Statement.{statement}
+use Rattle.trace.proofs.say.identifiers.Tie as tie
 
 abbrev Inv-loop : tie.InvT-loop
 Inv-loop count ids i₀ i = i ≤ 16

@@ -14,7 +14,7 @@ use node::Node;
 use protocol::Base;
 
 // On which link a burst arrives, from which base or as if from it.
-pub(crate) struct Arrival {
+pub struct Arrival {
     pub from: u8,
     pub link: usize,
     pub forged: bool,
@@ -76,7 +76,7 @@ fn refused(b: u8, arrival: Arrival, length: usize, number: u8) {
     causes::refused(number);
 }
 
-// The message, and why it is thrown aarrival.
+// The message, and why it is discarded.
 fn discards(b: u8, base: Base, arrival: Arrival, burst: &[u8]) {
     let taken = read_numbers(base.n as usize, burst);
     let ids = taken.ids;
@@ -86,7 +86,7 @@ fn discards(b: u8, base: Base, arrival: Arrival, burst: &[u8]) {
 }
 
 // A start at base b.
-pub(crate) fn start_call(b: u8, node: Node) {
+pub fn start_call(b: u8, node: Node) {
     let base = node.base;
     if base.state != 0 {
         return say::base(b, b" has started: discarded\n");
@@ -120,7 +120,7 @@ fn heard(b: u8, base: Base, arrival: Arrival, accepted: bool, burst: &[u8]) {
 }
 
 // A burst arrives at base b.
-pub(crate) fn arrival_call(b: u8, node: Node, arrival: Arrival, burst: &[u8]) {
+pub fn arrival_call(b: u8, node: Node, arrival: Arrival, burst: &[u8]) {
     let base = node.base;
     let mut frames = [0u8; OUTPUT_ROOM];
     let step = arrive(base, arrival.link, burst, &mut frames);

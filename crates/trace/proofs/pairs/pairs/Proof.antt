@@ -1,8 +1,8 @@
 -- The links are counted up to their number.
 use Prim.Native.Nat.{_≤_, _-_}
 use borrow.Author.Needs.{needs}
-use Rattle.hilltrace.proofs.pairs.pairs.Statement.{statement}
-use Rattle.hilltrace.proofs.pairs.pairs.Tie as tie
+use Rattle.trace.proofs.pairs.pairs.Statement.{statement}
+use Rattle.trace.proofs.pairs.pairs.Tie as tie
 
 abbrev Inv-loop : tie.InvT-loop
 Inv-loop base k named₀ i₀ named i = i ≤ k

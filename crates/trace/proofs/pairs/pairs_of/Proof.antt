@@ -1,8 +1,8 @@
 -- The links before i are counted up to i.
 use Prim.Native.Nat.{_≤_, _-_}
 use borrow.Author.Needs.{needs}
-use Rattle.hilltrace.proofs.pairs.pairs_of.Statement.{statement}
-use Rattle.hilltrace.proofs.pairs.pairs_of.Tie as tie
+use Rattle.trace.proofs.pairs.pairs_of.Statement.{statement}
+use Rattle.trace.proofs.pairs.pairs_of.Tie as tie
 
 abbrev Inv-loop : tie.InvT-loop
 Inv-loop base i before named₀ j₀ named j = j ≤ i
