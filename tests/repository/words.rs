@@ -2,7 +2,7 @@
 //! too; and the definition and the function that give it, which are there.
 
 use crate::antt::modules;
-use crate::files::{below, text_of};
+use crate::files::text_of;
 use crate::tables::{backticked, tables};
 use std::collections::BTreeMap;
 
@@ -24,8 +24,8 @@ pub fn check() -> Result<String, Vec<String>> {
     let sources = [
         ("include/roster.h", header(), 12),
         ("crates/limits/src/refusal.rt", constants(), table.len()),
-        ("the trace", arms("crates/causes/src", ".rt"), 15),
-        ("the picture", arms("tools/hillpicture", ".rs"), 9),
+        ("the trace", rows_of("crates/causes/src/meanings.rt"), table.len()),
+        ("the picture", arms("tools/hillpicture/refusals.rs"), 9),
     ];
     for (source, said, fewest) in sources {
         let said = said.unwrap_or_default();
@@ -128,18 +128,21 @@ fn constants() -> Result<Vec<Said>, String> {
     Ok(found)
 }
 
-/// `7 => .. "words" ..` or `refusal::NAME => .. "words" ..` of a function that says what a number means; `_` stands for one that is left.
-fn arms(folder: &str, ending: &str) -> Result<Vec<Said>, String> {
-    let numbers: BTreeMap<String, usize> = constants()?.into_iter().filter_map(|said| Some((said.name, said.number?))).collect();
+/// The rows of the constant `MEANINGS`, behind an empty one a row a number.
+fn rows_of(file: &str) -> Result<Vec<Said>, String> {
+    let text = text_of(file)?;
+    let rows = text.split_once("const MEANINGS").and_then(|(_, rest)| rest.split('"').nth(1)).unwrap_or_default();
+    let numbered = rows.trim_end().split('\n').enumerate().skip(1);
+    Ok(numbered.map(|(number, words)| Said { number: Some(number), name: String::new(), words: plain(words) }).collect())
+}
+
+/// `7 => .. "words" ..`
+fn arms(file: &str) -> Result<Vec<Said>, String> {
+    let text = text_of(file)?;
     let mut found = Vec::new();
-    for file in below(folder, ending) {
-        let says = ["fn refused(number", "fn meaning(number"];
-        let bodies = says.iter().filter_map(|begin| file.text.split_once(begin)).filter_map(|(_, rest)| rest.split("\n}").next());
-        for (key, rest) in bodies.flat_map(str::lines).filter_map(|line| line.trim_start().split_once(" => ")) {
-            let Some(words) = rest.split('"').nth(1) else { continue };
-            let number = key.parse().ok().or_else(|| numbers.get(key.rsplit("::").next()?).copied());
-            found.push(Said { number, name: String::new(), words: plain(words.trim_end_matches("\\n")) });
-        }
+    for (key, rest) in text.lines().filter_map(|line| line.trim_start().split_once(" => ")) {
+        let Some(words) = rest.split('"').nth(1) else { continue };
+        found.push(Said { number: key.parse().ok(), name: String::new(), words: plain(words) });
     }
     Ok(found)
 }

@@ -64,15 +64,15 @@ pub(crate) fn spaces(line: &[u8]) -> usize {
     count
 }
 
-// The place behind so many spaces, or the length where there are fewer.
-pub(crate) fn behind_spaces(line: &[u8], count: usize) -> usize {
+// The place behind so many such bytes, or the length where there are fewer.
+pub(crate) fn behind(bytes: &[u8], wanted: u8, count: usize) -> usize {
     let mut left = count;
     let mut i: usize = 0;
-    while i < line.len() {
+    while i < bytes.len() {
         if left == 0 {
             return i;
         }
-        if line[i] == b' ' {
+        if is_wanted(bytes[i], wanted) {
             left -= 1;
         }
         i += 1;

@@ -1,7 +1,7 @@
 // The causes of numbers 1 to 3 and 14 to 18.
 use crate::RefusedLine;
-use crate::line::NET;
-use crate::line::first_alike;
+use crate::alike::first_alike;
+use crate::forms::NET;
 use crate::line::line_at;
 use crate::line::value;
 use crate::tell;
@@ -59,8 +59,8 @@ fn not_broadcast(line: &[u8], broadcasts: usize) {
     text(b"  up to here base ");
     output::number(value(line, 1));
     text(b" has broadcast ");
-    output::number(broadcasts);
-    text(b" messages\n");
+    tell::counted(broadcasts, b" message");
+    text(b"\n");
 }
 
 fn event(s: &[u8], line: &[u8], refused: RefusedLine) {

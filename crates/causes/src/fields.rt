@@ -1,80 +1,118 @@
 // The fields of a line whose word stands in its place. Each test tells what it finds and answers whether it found something.
 use crate::RefusedLine;
+use crate::alike::first_alike;
 use crate::bytes::NO_DIGIT;
 use crate::bytes::NO_HEX_DIGIT;
 use crate::bytes::place_of;
 use crate::bytes::spaces;
-use crate::line::CARRY;
-use crate::line::FAULTY;
-use crate::line::FORGE;
-use crate::line::ID;
-use crate::line::NET;
-use crate::line::START;
+use crate::forms::CARRY;
+use crate::forms::FAULTY;
+use crate::forms::FORGE;
+use crate::forms::ID;
+use crate::forms::NET;
+use crate::forms::START;
+use crate::forms::asked;
+use crate::forms::form;
 use crate::line::field;
-use crate::line::first_alike;
 use crate::line::value;
 use crate::tell;
 use limits::LONGEST_FORGERY;
 use output::number;
+use output::parts::part;
+use output::parts::plus;
 use output::text;
+use output::visible;
 use text::number::Number;
 use text::number::number_at;
 
-fn asked(kind: u8) -> usize {
-    match kind {
-        START => 1,
-        CARRY => 3,
-        FORGE => 3,
-        _ => 2,
+// Both bases stand there, so that the third field alone is missing.
+fn only_hex_missing(line: &[u8], n: usize) -> bool {
+    if !is_base(line, 1, n) {
+        return false;
+    }
+    is_base(line, 2, n)
+}
+
+fn space_before_hex(kind: u8, line: &[u8], n: usize) {
+    if kind != FORGE {
+        return;
+    }
+    if spaces(line) != 2 {
+        return;
+    }
+    if only_hex_missing(line, n) {
+        tell::cause(b"the space before hex stands even where there are no bytes");
     }
 }
 
 // So many fields as the form asks.
-fn number_of_fields(kind: u8, line: &[u8]) -> bool {
+fn number_of_fields(kind: u8, line: &[u8], n: usize) -> bool {
     let count = spaces(line);
     if count == asked(kind) {
         return false;
     }
     text(b"  the form is ");
-    tell::form(kind);
+    form(kind);
     text(b", and the line has ");
-    number(count);
-    text(b" fields behind its word\n");
-    if kind == FORGE {
-        if count == 2 {
-            tell::cause(b"the space before hex stands even where there are no bytes");
-        }
-    }
+    tell::counted(count, b" field");
+    text(b" behind its word\n");
+    space_before_hex(kind, line, n);
     true
 }
 
-fn is_no_number(kind: u8, line: &[u8], i: usize) {
-    tell::field_is(kind, line, i);
-    text(b", which is no decimal number\n");
-}
+// What keeps a field from being a decimal number without leading zeros, at most 4,294,967,295.
+const NOTHING: u8 = 0;
 
-// A decimal number without leading zeros, at most 4,294,967,295.
-fn decimal(kind: u8, line: &[u8], i: usize) -> bool {
-    let bytes = field(line, i);
+const NO_NUMBER: u8 = 1;
+
+const TOO_LARGE: u8 = 2;
+
+const LEADING_ZERO: u8 = 3;
+
+fn number_fault(bytes: &[u8]) -> u8 {
     if bytes.len() == 0 {
-        is_no_number(kind, line, i);
-        return true;
+        return NO_NUMBER;
     }
     if place_of(bytes, NO_DIGIT) < bytes.len() {
-        is_no_number(kind, line, i);
-        return true;
+        return NO_NUMBER;
     }
     let Number::Value(_, next) = number_at(bytes, 0) else {
-        tell::field_is(kind, line, i);
-        text(b", above 4,294,967,295\n");
-        return true;
+        return TOO_LARGE;
     };
     if next == bytes.len() {
+        return NOTHING;
+    }
+    LEADING_ZERO
+}
+
+fn decimal(kind: u8, line: &[u8], i: usize) -> bool {
+    let fault = number_fault(field(line, i));
+    if fault == NOTHING {
         return false;
     }
     tell::field_is(kind, line, i);
-    text(b", with a leading zero\n");
+    match fault {
+        NO_NUMBER => text(b", which is no decimal number\n"),
+        TOO_LARGE => text(b", above 4,294,967,295\n"),
+        _ => text(b", with a leading zero\n"),
+    }
     true
+}
+
+fn no_hex_digit(digits: &[u8], place: usize) {
+    text(b"  digit ");
+    number(plus(place, 1));
+    text(b" of hex is ");
+    visible(part(digits, place, 1));
+    text(b", not 0 to 9 or a to f\n");
+}
+
+fn too_many_bytes(count: usize) {
+    text(b"  hex has ");
+    number(count);
+    text(b" bytes, and ");
+    number(LONGEST_FORGERY);
+    text(b" are the most\n");
 }
 
 // Two digits a byte, small letters, as many as a line can forge.
@@ -82,21 +120,19 @@ fn hex(line: &[u8]) -> bool {
     let digits = field(line, 3);
     let place = place_of(digits, NO_HEX_DIGIT);
     if place < digits.len() {
-        tell::with_number(b"digit ", place + 1, b" of hex is not 0 to 9 or a to f");
+        no_hex_digit(digits, place);
         return true;
     }
     if digits.len() % 2 == 1 {
-        tell::with_number(b"hex has ", digits.len(), b" digits, and a byte has two");
+        text(b"  hex has ");
+        tell::counted(digits.len(), b" digit");
+        text(b", and a byte has two\n");
         return true;
     }
     if digits.len() / 2 <= LONGEST_FORGERY {
         return false;
     }
-    tell::with_number(
-        b"hex has ",
-        digits.len() / 2,
-        b" bytes, and 132 are the most",
-    );
+    too_many_bytes(digits.len() / 2);
     true
 }
 
@@ -123,12 +159,20 @@ fn each(kind: u8, line: &[u8]) -> bool {
 }
 
 // A base of the net.
-fn base(kind: u8, line: &[u8], i: usize, n: usize) -> bool {
+fn is_base(line: &[u8], i: usize, n: usize) -> bool {
+    if number_fault(field(line, i)) != NOTHING {
+        return false;
+    }
     let b = value(line, i);
     if 0 < b {
-        if b <= n {
-            return false;
-        }
+        return b <= n;
+    }
+    false
+}
+
+fn base(kind: u8, line: &[u8], i: usize, n: usize) -> bool {
+    if is_base(line, i, n) {
+        return false;
     }
     tell::field_is(kind, line, i);
     text(b", and the net has bases 1 to ");
@@ -195,7 +239,7 @@ fn together(kind: u8, s: &[u8], line: &[u8], refused: RefusedLine) -> bool {
 }
 
 pub(crate) fn fields(kind: u8, s: &[u8], line: &[u8], refused: RefusedLine) -> bool {
-    if number_of_fields(kind, line) {
+    if number_of_fields(kind, line, refused.n) {
         return true;
     }
     if each(kind, line) {

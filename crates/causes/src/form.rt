@@ -2,14 +2,15 @@
 use crate::RefusedLine;
 use crate::bytes::NOT_PRINTING;
 use crate::bytes::place_of;
+use crate::bytes::spaces;
 use crate::bytes::two_spaces;
 use crate::fields::fields;
-use crate::line::FAULTY;
-use crate::line::ID;
-use crate::line::NET;
+use crate::forms::FAULTY;
+use crate::forms::ID;
+use crate::forms::NET;
+use crate::forms::kind_of;
 use crate::line::begins;
 use crate::line::field;
-use crate::line::kind_of;
 use crate::line::line_at;
 use crate::tell;
 use limits::LONGEST_SCHEDULE;
@@ -51,34 +52,77 @@ fn odd_byte(line: &[u8], place: usize) {
     text(b", which stands in no line\n");
 }
 
-// A byte that does not print.
-fn odd_bytes(line: &[u8]) -> bool {
-    let place = place_of(line, NOT_PRINTING);
-    if line.len() <= place {
-        return false;
+// A carriage return at that place of a line.
+fn carriage_return(line: &[u8], place: usize, ended: bool) {
+    if plus(place, 1) < line.len() {
+        return tell::with_number(
+            b"byte ",
+            plus(place, 1),
+            b" is a carriage return (\\r), and only a line feed ends a line",
+        );
     }
+    if ended {
+        return tell::cause(b"a carriage return (\\r) stands before the line feed");
+    }
+    tell::cause(b"a carriage return (\\r) stands at the end, and no line feed")
+}
+
+// The beginning of a text in UTF-16, by its byte-order mark or by its first letter.
+fn is_utf_16(line: &[u8]) -> bool {
+    if begins(line, b"\xff\xfe") {
+        return true;
+    }
+    if begins(line, b"\xfe\xff") {
+        return true;
+    }
+    if begins(line, b"n\x00") {
+        return true;
+    }
+    begins(line, b"\x00n")
+}
+
+// What an editor puts before a text, or makes of it.
+fn encoding(line: &[u8]) -> bool {
     if begins(line, b"\xef\xbb\xbf") {
         tell::cause(b"a byte-order mark (\\xef\\xbb\\xbf) stands at the beginning");
         return true;
     }
-    if line.len() - place == 1 {
-        if line[place] == b'\r' {
-            tell::cause(b"a carriage return (\\r) stands before the line feed");
-            return true;
-        }
+    if is_utf_16(line) {
+        tell::cause(b"the text is in UTF-16, and each sign of a line is one byte");
+        return true;
+    }
+    false
+}
+
+// A byte that does not print. The line feed stands behind the line, or else the schedule ends with it.
+fn odd_bytes(line: &[u8], ended: bool) -> bool {
+    let place = place_of(line, NOT_PRINTING);
+    if line.len() <= place {
+        return false;
+    }
+    if encoding(line) {
+        return true;
+    }
+    if line[place] == b'\r' {
+        carriage_return(line, place, ended);
+        return true;
     }
     odd_byte(line, place);
     true
 }
 
+// Behind `forge a b ` there may be nothing.
 fn space_at_the_end(line: &[u8]) -> bool {
     if line.len() < 1 {
         return false;
     }
-    if begins(line, b"forge ") {
+    if line[line.len() - 1] != b' ' {
         return false;
     }
-    line[line.len() - 1] == b' '
+    if begins(line, b"forge ") {
+        return 3 < spaces(line);
+    }
+    true
 }
 
 fn odd_spaces(line: &[u8]) -> bool {
@@ -165,11 +209,12 @@ fn words(s: &[u8], line: &[u8], refused: RefusedLine) {
 }
 
 fn broken(s: &[u8], line: &[u8], refused: RefusedLine) {
-    if odd_bytes(line) {
+    let at = refused.at;
+    let ended = plus(at, line.len()) < s.len();
+    if odd_bytes(line, ended) {
         return;
     }
-    let at = refused.at;
-    if s.len() <= plus(at, line.len()) {
+    if !ended {
         return tell::cause(b"no line feed stands at the end");
     }
     if odd_spaces(line) {

@@ -1,11 +1,7 @@
 // Pieces of a cause.
-use crate::line::CARRY;
-use crate::line::FAULTY;
-use crate::line::FORGE;
-use crate::line::ID;
-use crate::line::NET;
-use crate::line::START;
+use crate::forms::name;
 use crate::line::field;
+use limits::LONGEST_SCHEDULE;
 use output::number;
 use output::parts::part;
 use output::text;
@@ -14,13 +10,30 @@ use output::visible;
 // Bytes of a line that are shown.
 const SHOWN: usize = 80;
 
-// A line or a field, such that every byte is seen, and not too long.
+fn length(bytes: &[u8]) {
+    if LONGEST_SCHEDULE < bytes.len() {
+        text(b"more than ");
+        return number(LONGEST_SCHEDULE);
+    }
+    number(bytes.len())
+}
+
+// A line or a field, such that every byte is seen, and not too long. Of a longer schedule no more is read than shows that it is longer.
 pub(crate) fn cut(bytes: &[u8]) {
     visible(part(bytes, 0, SHOWN));
     if SHOWN < bytes.len() {
         text(b" ... (");
-        number(bytes.len());
+        length(bytes);
         text(b" bytes)");
+    }
+}
+
+// So many of a thing: `1 field`, `2 fields`.
+pub(crate) fn counted(v: usize, thing: &[u8]) {
+    number(v);
+    text(thing);
+    if v != 1 {
+        text(b"s");
     }
 }
 
@@ -40,49 +53,10 @@ pub(crate) fn with_number(words: &[u8], v: usize, end: &[u8]) {
     text(b"\n");
 }
 
-pub(crate) fn form(kind: u8) {
-    match kind {
-        NET => text(b"`net n t`"),
-        ID => text(b"`id b v`"),
-        FAULTY => text(b"`faulty a b`"),
-        START => text(b"`start b`"),
-        CARRY => text(b"`carry a b k`"),
-        _ => text(b"`forge a b hex`"),
-    }
-}
-
-fn first_name(kind: u8) {
-    match kind {
-        NET => text(b"n"),
-        ID => text(b"b"),
-        START => text(b"b"),
-        _ => text(b"a"),
-    }
-}
-
-fn second_name(kind: u8) {
-    match kind {
-        NET => text(b"t"),
-        ID => text(b"v"),
-        _ => text(b"b"),
-    }
-}
-
-fn third_name(kind: u8) {
-    match kind {
-        FORGE => text(b"hex"),
-        _ => text(b"k"),
-    }
-}
-
 // A field by its name and as it stands.
 pub(crate) fn field_is(kind: u8, line: &[u8], i: usize) {
     text(b"  ");
-    match i {
-        1 => first_name(kind),
-        2 => second_name(kind),
-        _ => third_name(kind),
-    }
+    name(kind, i);
     text(b" is ");
     cut(field(line, i));
 }

@@ -23,22 +23,25 @@ pub fn prints(b: u8) -> bool
     b <= b'~'
 }
 
-fn visible_byte(b: u8) {
+fn plain_byte(b: u8) {
     if prints(b) {
-        io::write_all(STDOUT_FILENO, &[b]);
+        text(&[b]);
         return;
     }
+    text(b"\\x");
+    io::print_hex(STDOUT_FILENO, b as u64, 2);
+}
+
+fn visible_byte(b: u8) {
     match b {
         b'\t' => text(b"\\t"),
         b'\r' => text(b"\\r"),
-        _ => {
-            text(b"\\x");
-            io::print_hex(STDOUT_FILENO, b as u64, 2);
-        }
+        b'\\' => text(b"\\\\"),
+        _ => plain_byte(b),
     }
 }
 
-// Bytes of a schedule, those that do not print as `\t`, `\r` or `\x00`.
+// Bytes of a schedule, those that do not print as `\t`, `\r` or `\x00`; a backslash is doubled.
 pub fn visible(bytes: &[u8]) {
     let mut i: usize = 0;
     while i < bytes.len() {

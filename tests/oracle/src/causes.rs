@@ -27,7 +27,7 @@ pub fn told(schedule: &[u8], refused: Refused) -> (String, Vec<String>) {
     let causes = match refused.number {
         13 if schedule.len() > LONGEST_SCHEDULE => vec!["the schedule has more than 65,536 bytes".to_string()],
         13 if all.len() < refused.line => vec!["the schedule ends before it".to_string(), line.belongs()],
-        13 => bytes(text).map_or_else(|| line.form(here.ends_with(b"\n")), |cause| vec![cause]),
+        13 => bytes(here).map_or_else(|| line.form(here.ends_with(b"\n")), |cause| vec![cause]),
         number => vec![line.cause(number, schedule)],
     };
     (format!("line {}: {}", refused.line, shown(text)), causes)
@@ -40,14 +40,16 @@ fn plain(line: &[u8]) -> String {
 
 fn shown(text: &[u8]) -> String {
     let seen: String = text.iter().take(SHOWN).map(|&byte| visible(byte)).collect();
-    match text.len() > SHOWN {
-        true => format!("{seen} ... ({} bytes)", text.len()),
-        false => seen,
+    match text.len() {
+        ..=SHOWN => seen,
+        length if length > LONGEST_SCHEDULE => format!("{seen} ... (more than {LONGEST_SCHEDULE} bytes)"),
+        length => format!("{seen} ... ({length} bytes)"),
     }
 }
 
 fn visible(byte: u8) -> String {
     match byte {
+        b'\\' => "\\\\".to_string(),
         b' '..=b'~' => (byte as char).to_string(),
         b'\t' => "\\t".to_string(),
         b'\r' => "\\r".to_string(),
@@ -55,13 +57,23 @@ fn visible(byte: u8) -> String {
     }
 }
 
-/// The first byte that does not print.
-fn bytes(text: &[u8]) -> Option<String> {
-    let place = text.iter().position(|byte| !(b' '..=b'~').contains(byte))?;
-    Some(match text {
-        [0xef, 0xbb, 0xbf, ..] => "a byte-order mark (\\xef\\xbb\\xbf) stands at the beginning".to_string(),
-        [.., b'\r'] if place + 1 == text.len() => "a carriage return (\\r) stands before the line feed".to_string(),
-        _ => format!("byte {} is {}, which stands in no line", place + 1, visible(text[place])),
+/// `1 field`, `2 fields`
+fn counted(count: usize, thing: &str) -> String {
+    format!("{count} {thing}{}", if count == 1 { "" } else { "s" })
+}
+
+/// Of a line with its line feed: the first byte before it that does not print.
+fn bytes(line: &[u8]) -> Option<String> {
+    let place = line.iter().position(|byte| !(b' '..=b'~').contains(byte)).filter(|&place| line[place] != b'\n')?;
+    Some(match (line, &line[place..]) {
+        ([0xef, 0xbb, 0xbf, ..], _) => "a byte-order mark (\\xef\\xbb\\xbf) stands at the beginning".to_string(),
+        ([0xff, 0xfe, ..] | [0xfe, 0xff, ..] | [b'n', 0, ..] | [0, b'n', ..], _) => {
+            "the text is in UTF-16, and each sign of a line is one byte".to_string()
+        }
+        (_, b"\r\n") => "a carriage return (\\r) stands before the line feed".to_string(),
+        (_, b"\r") => "a carriage return (\\r) stands at the end, and no line feed".to_string(),
+        (_, [b'\r', ..]) => format!("byte {} is a carriage return (\\r), and only a line feed ends a line", place + 1),
+        _ => format!("byte {} is {}, which stands in no line", place + 1, visible(line[place])),
     })
 }
 
@@ -100,7 +112,7 @@ impl Line {
                 format!("line {} has it for another base", self.first(has_it))
             }
             15 => format!("t is {}, and so many are named before it", self.before[0].split(' ').nth(2).unwrap_or_default()),
-            16 => format!("up to here base {a} has broadcast {} messages", self.broadcasts(schedule, a)),
+            16 => format!("up to here base {a} has broadcast {}", counted(self.broadcasts(schedule, a), "message")),
             17 => format!("line {} is that carry", self.first(|line| *line == self.words.join(" "))),
             _ => format!("the header has no line `faulty {} {}`", a.min(b), a.max(b)),
         }
@@ -137,8 +149,9 @@ impl Line {
         if fields == names.len() {
             return vec![self.fields(word, names)];
         }
-        let mut causes = vec![format!("the form is `{word} {}`, and the line has {fields} fields behind its word", names.join(" "))];
-        if (word, fields) == ("forge", 2) {
+        let has = counted(fields, "field");
+        let mut causes = vec![format!("the form is `{word} {}`, and the line has {has} behind its word", names.join(" "))];
+        if (word, fields) == ("forge", 2) && [1, 2].iter().all(|&i| self.is_base(i)) {
             causes.push("the space before hex stands even where there are no bytes".to_string());
         }
         causes
@@ -159,7 +172,8 @@ impl Line {
         if let Some(place) = text.find("  ") {
             return Some(format!("byte {} is a second space, and one separates two words", place + 2));
         }
-        (text.ends_with(' ') && !text.starts_with("forge ")).then(|| "a space stands at the end".to_string())
+        let no_bytes = text.starts_with("forge ") && self.words.len() <= 4;
+        (text.ends_with(' ') && !no_bytes).then(|| "a space stands at the end".to_string())
     }
 
     fn misplaced(&self, word: &str) -> Option<String> {
@@ -177,18 +191,27 @@ impl Line {
         }
     }
 
+    /// What keeps a field from being a decimal number.
+    fn number_fault(&self, i: usize) -> Option<&'static str> {
+        let value = self.word(i);
+        if value.is_empty() || !value.bytes().all(|byte| byte.is_ascii_digit()) {
+            return Some("which is no decimal number");
+        }
+        if value.len() > 1 && value.starts_with('0') {
+            return Some("with a leading zero");
+        }
+        value.parse::<u32>().is_err().then_some("above 4,294,967,295")
+    }
+
+    fn is_base(&self, i: usize) -> bool {
+        self.number_fault(i).is_none() && (1..=self.n()).contains(&self.base(i))
+    }
+
     /// As many fields as the form asks, the first that is wrong.
     fn fields(&self, word: &str, names: &[&str]) -> String {
         for i in (1..=names.len()).filter(|&i| names[i - 1] != "hex") {
-            let value = self.word(i);
-            if value.is_empty() || !value.bytes().all(|byte| byte.is_ascii_digit()) {
-                return format!("{}, which is no decimal number", self.is(names, i));
-            }
-            if value.len() > 1 && value.starts_with('0') {
-                return format!("{}, with a leading zero", self.is(names, i));
-            }
-            if value.parse::<u32>().is_err() {
-                return format!("{}, above 4,294,967,295", self.is(names, i));
+            if let Some(fault) = self.number_fault(i) {
+                return format!("{}, {fault}", self.is(names, i));
             }
         }
         self.hex(word).unwrap_or_else(|| self.against_the_net(word, names))
@@ -200,12 +223,12 @@ impl Line {
             return None;
         }
         if let Some(place) = digits.bytes().position(|byte| !matches!(byte, b'0'..=b'9' | b'a'..=b'f')) {
-            return Some(format!("digit {} of hex is not 0 to 9 or a to f", place + 1));
+            return Some(format!("digit {} of hex is {}, not 0 to 9 or a to f", place + 1, visible(digits.as_bytes()[place])));
         }
         if digits.len() % 2 == 1 {
-            return Some(format!("hex has {} digits, and a byte has two", digits.len()));
+            return Some(format!("hex has {}, and a byte has two", counted(digits.len(), "digit")));
         }
-        (digits.len() / 2 > LONGEST_FORGERY).then(|| format!("hex has {} bytes, and 132 are the most", digits.len() / 2))
+        (digits.len() / 2 > LONGEST_FORGERY).then(|| format!("hex has {} bytes, and {LONGEST_FORGERY} are the most", digits.len() / 2))
     }
 
     fn against_the_net(&self, word: &str, names: &[&str]) -> String {
@@ -214,7 +237,7 @@ impl Line {
             return format!("{}, and this is the line of base {}", self.is(names, 1), self.number - 1);
         }
         for i in (1..=names.len()).filter(|&i| ["a", "b"].contains(&names[i - 1])) {
-            if !(1..=n).contains(&self.base(i)) {
+            if !self.is_base(i) {
                 return format!("{}, and the net has bases 1 to {n}", self.is(names, i));
             }
         }

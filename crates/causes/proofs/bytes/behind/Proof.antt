@@ -1,15 +1,15 @@
--- The place stays within the line.
+-- The place stays within the bytes.
 use Prim.Native.Nat.{_≤_, _-_}
 use lib.ListN.{length}
 use borrow.Author.Needs.{needs}
-use Rattle.causes.proofs.bytes.behind_spaces.Statement.{statement}
-use Rattle.causes.proofs.bytes.behind_spaces.Tie as tie
+use Rattle.causes.proofs.bytes.behind.Statement.{statement}
+use Rattle.causes.proofs.bytes.behind.Tie as tie
 
 abbrev Inv-loop : tie.InvT-loop
-Inv-loop line count left₀ i₀ left i = i ≤ length line
+Inv-loop bytes wanted count left₀ i₀ left i = i ≤ length bytes
 
 abbrev μ-loop : tie.MeasureT-loop
-μ-loop line count left₀ i₀ left i = length line - i
+μ-loop bytes wanted count left₀ i₀ left i = length bytes - i
 
 loop-holds : tie.Need-loop-holds Inv-loop μ-loop
 loop-holds c = search needs
@@ -17,8 +17,11 @@ loop-holds c = search needs
 returns : tie.Need-returns Inv-loop μ-loop
 returns c = search needs
 
-shared-slice-read-if2 : tie.Need-shared-slice-read-if2 Inv-loop μ-loop
-shared-slice-read-if2 c = search needs
+shared-slice-read-is-wanted : tie.Need-shared-slice-read-is-wanted Inv-loop μ-loop
+shared-slice-read-is-wanted c = search needs
+
+is-wanted-requires : tie.Need-is-wanted-requires Inv-loop μ-loop
+is-wanted-requires c κs = search needs
 
 sub-left : tie.Need-sub-left Inv-loop μ-loop
 sub-left c = search needs
@@ -35,15 +38,16 @@ loop-again c = search needs
 returns-2 : tie.Need-returns-2 Inv-loop μ-loop
 returns-2 c = search needs
 
-pub behind-spaces-spec : {M : Type 1} → statement M
-behind-spaces-spec =
+pub behind-spec : {M : Type 1} → statement M
+behind-spec =
     tie.close
     (tie.spec
     Inv-loop
     μ-loop
     loop-holds
     returns
-    shared-slice-read-if2
+    shared-slice-read-is-wanted
+    is-wanted-requires
     sub-left
     add-i
     loop-less

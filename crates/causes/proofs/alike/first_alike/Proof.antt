@@ -2,8 +2,8 @@
 use Prim.Native.Nat.{_≤_, _-_}
 use lib.ListN.{length}
 use borrow.Author.Needs.{needs}
-use Rattle.causes.proofs.line.first_alike.Statement.{statement}
-use Rattle.causes.proofs.line.first_alike.Tie as tie
+use Rattle.causes.proofs.alike.first_alike.Statement.{statement}
+use Rattle.causes.proofs.alike.first_alike.Tie as tie
 
 abbrev Inv-loop : tie.InvT-loop
 Inv-loop s at from next₀ k₀ next k = k ≤ length s
