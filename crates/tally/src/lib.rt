@@ -14,8 +14,9 @@ ghost use lib.ListN.{take};
 ghost use Rattle.limits.specs.Limits.{mostBases, mostLinks};
 ghost use Rattle.lists.specs.Lists.{sumOver};
 ghost use Rattle.counting.specs.Sums.{bit};
+ghost use Rattle.counting.specs.Sums as Sums;
 ghost use Rattle.protocol.specs.Links.{holdsVerify};
-ghost use Rattle.protocol.specs.Record.{links, tally, tallySum};
+ghost use Rattle.protocol.specs.Record.{linkAt, linkCount, links, tally, tallySum};
 
 // The number of links that hold Verify g.
 fn verify_links(base: Base, g: u32) -> usize
@@ -53,15 +54,14 @@ fn verified_of(link: Link, ids: [u32; MOST_BASES], count: usize) -> usize
     sum
 }
 
-// Each certified identifier counts once for being certified. Then the links are read, each once.
-pub fn tally_sum(base: Base) -> usize
-    ensures { λ r. ⌜ (r ≡ tallySum base) × (r ≤ mostBases * mostBases) ⌝ }
+// How many of the first count identifiers each link holds as Verify, all links together. Each link is read once.
+fn verified_sum(base: Base, ids: [u32; MOST_BASES], count: usize) -> usize
+    requires { ⌜ count ≤ mostBases ⌝ }
+    ensures { λ r. ⌜ (r ≡ Sums.sum (linkCount base) (λ i. sumOver (take count ids) (λ g. bit (holdsVerify (linkAt base i) g))))
+        × (r ≤ mostBases * mostLinks) ⌝ }
 {
-    let list = certified_ids(base);
-    let ids = list.ids;
-    let count = list.count;
     let k = link_count(base.n);
-    let mut sum = count;
+    let mut sum: usize = 0;
     let mut i: usize = 0;
     while i < k {
         let link = base.links[i];
@@ -69,4 +69,14 @@ pub fn tally_sum(base: Base) -> usize
         i += 1;
     }
     sum
+}
+
+// Each certified identifier counts once for being certified, and once for each link that holds it as Verify.
+pub fn tally_sum(base: Base) -> usize
+    ensures { λ r. ⌜ (r ≡ tallySum base) × (r ≤ mostBases * mostBases) ⌝ }
+{
+    let list = certified_ids(base);
+    let ids = list.ids;
+    let count = list.count;
+    count + verified_sum(base, ids, count)
 }
