@@ -12,6 +12,7 @@ use Rattle.soundness.specs.Place.{placeRefusal}
 use Rattle.change.specs.Heard.{messageIn}
 pub mod Laws
 pub mod Bursts
+pub mod Valid
 
 -- 8, of the kind; 9, of an identifier behind as many as the kind holds; 11 and 12, of the list
 unfoldable pub messageRefusal : ℕ → ℕ → List ℕ → ℕ

@@ -1,5 +1,7 @@
 // A carry and a forgery, each on the nodes that it names. What is turned down, by 16 to 18 or by the base's call, leaves the base
 // that it would reach as it was. A start is the call alone (crate `node_calls`). specs/Represents.antt has what these do to the net.
+use limits::IDENTIFIER_BYTES;
+use limits::refusal;
 use net::Faulty;
 use net::links::is_good;
 use node::Node;
@@ -7,10 +9,11 @@ use node::log::broadcast;
 use node::log::broadcasts;
 use node::marks::heard;
 use node::marks::mark;
-use node_calls::hear;
 use node_calls::hear_frame;
+use node_calls::hear_message;
 use numbering::link_to;
 use reader::Reading;
+use reader::identifiers;
 use reader::read;
 ghost use mathlib.Core.Path.{_≡_};
 ghost use Rattle.net.specs.Abstraction.{pairsOf};
@@ -27,14 +30,14 @@ fn carry_refusal(sender: Node, receiver: Node, faulty: Faulty, a: u8, b: u8, k: 
     ensures { λ r. ⌜ r ≡ carryRefusal sender receiver (pairsOf faulty) a b k ⌝ }
 {
     if k == 0 {
-        return 16;
+        return refusal::NOT_BROADCAST;
     }
     if broadcasts(sender) < k {
-        return 16;
+        return refusal::NOT_BROADCAST;
     }
     if is_good(faulty, a, b) {
         if heard(receiver, a, k) {
-            return 17;
+            return refusal::CARRIED_BEFORE;
         }
     }
     0
@@ -65,29 +68,25 @@ pub fn carry(sender: Node, receiver: Node, faulty: Faulty, a: u8, b: u8, k: usiz
     }
 }
 
-// A burst arrives at b as if from a. A burst that cannot be read changes nothing.
+// A burst arrives at b as if from a: its reading is taken apart, and what was read arrives.
 pub fn forge(receiver: Node, links: Faulty, a: u8, b: u8, burst: &[u8]) -> Reached
     ensures { λ r. ⌜ r ≡ forgedTo receiver (pairsOf links) a b (now (burst .entry)) ⌝ }
 {
     if is_good(links, a, b) {
         return Reached {
-            refusal: 18,
+            refusal: refusal::FORGED_ON_GOOD,
             node: receiver,
         };
     }
     let base = receiver.base;
-    let Reading::Message {
-        kind: _,
-        count: _,
-        start: _,
-    } = read(base.n as usize, burst)
-    else {
+    let Reading::Message { kind, count, start } = read(base.n as usize, burst) else {
         return Reached {
-            refusal: 0,
+            refusal: 0, // "else the forged line ends with nothing changed"
             node: receiver,
         };
     };
-    let told = hear(receiver, link_to(b, a), burst);
+    let ids = identifiers(&burst[start..start + IDENTIFIER_BYTES * count]);
+    let told = hear_message(receiver, link_to(b, a), kind, ids);
     let node = told.node;
     Reached { refusal: 0, node }
 }

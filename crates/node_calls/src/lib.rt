@@ -1,21 +1,23 @@
-// Calls on the record of a base of the program's net: a start, and an arrival on a link. The frames that a call writes join the
-// base's broadcasts.
+// Calls on the record of a base of the program's net: a start, an arrival on a link, and a message that was read. The frames that a
+// call writes join the base's broadcasts.
 mod keep;
 
 use crate::keep::keep_three;
-use engine::arrival::arrive;
+use change::changed;
+use engine::changes::arrive;
 use limits::LONGEST_FRAME;
+use limits::MOST_BASES;
 use limits::OUTPUT_ROOM;
 use node::Frame;
 use node::Node;
 use protocol::Base;
 use protocol::Outcome;
-use protocol::Step;
 ghost use mathlib.Core.Path.{_≡_};
 ghost use lib.ListN.{length};
 ghost use Rattle.limits.specs.Limits.{outputRoom};
 ghost use Rattle.protocol.specs.Steps.{arrival};
 ghost use Rattle.protocol.specs.Steps as Steps;
+ghost use Rattle.engine.specs.Hearing.{messageArrival};
 ghost use Rattle.node.specs.Node.{written};
 ghost use Rattle.node_calls.specs.Calls.{told, Fitting, settledOf};
 
@@ -56,25 +58,34 @@ pub fn start(node: Node) -> Told
 {
     let base = node.base;
     let mut out = [0u8; OUTPUT_ROOM];
-    let step = engine::start::start(base, &mut out);
-    let outcome = step.outcome;
-    let next = step.base;
-    settle(node, next, outcome, &out)
+    let change = engine::changes::start(base, &mut out);
+    let outcome = change.outcome;
+    settle(node, changed(base, change), outcome, &out)
 }
 
 // A burst arrives at the base on a link.
-pub fn hear(node: Node, link: usize, burst: &[u8]) -> Told
+fn hear(node: Node, link: usize, burst: &[u8]) -> Told
     ensures { λ r. ⌜ r ≡ told node (arrival (node .base) link (now (burst .entry)) outputRoom) ⌝ }
 {
     let base = node.base;
     let mut out = [0u8; OUTPUT_ROOM];
-    let step = arrive(base, link, burst, &mut out);
-    let outcome = step.outcome;
-    let next = step.base;
-    settle(node, next, outcome, &out)
+    let change = arrive(base, link, burst, &mut out);
+    let outcome = change.outcome;
+    settle(node, changed(base, change), outcome, &out)
 }
 
-// The same of a frame as it was written.
+// A message that was read arrives at the base on a link: its kind, and its identifiers with zeros behind.
+pub fn hear_message(node: Node, link: usize, kind: u8, ids: [u32; MOST_BASES]) -> Told
+    ensures { λ r. ⌜ r ≡ told node (messageArrival (node .base) link kind ids outputRoom) ⌝ }
+{
+    let base = node.base;
+    let mut out = [0u8; OUTPUT_ROOM];
+    let change = engine::changes::hear(base, link, kind, ids, &mut out);
+    let outcome = change.outcome;
+    settle(node, changed(base, change), outcome, &out)
+}
+
+// A frame arrives, as it was written.
 pub fn hear_frame(node: Node, link: usize, frame: Frame) -> Told
     ensures { λ r. ⌜ r ≡ told node (arrival (node .base) link (written frame) outputRoom) ⌝ }
 {

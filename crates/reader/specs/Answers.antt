@@ -10,6 +10,7 @@ use Rattle.frame.specs.Reading.{kindByte, countByte, bodyStart, bodyOf, identif
 use Rattle.reader.specs.declared.Reading.{Reading}
 use Rattle.reader.specs.declared.Reading.the-variants.{Message, Refused}
 pub mod Laws
+pub mod Place
 
 -- "The reader hands back the body as that very stretch of the burst; for a refused burst it gives an empty stretch": where it starts, and
 -- its bytes

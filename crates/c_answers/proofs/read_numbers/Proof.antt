@@ -9,7 +9,7 @@ use Rattle.reader.specs.declared.Reading.{Reading}
 use Rattle.reader.specs.declared.Reading.the-variants.{Message}
 use Rattle.reader.specs.Answers.{readingOf, idArray}
 use Rattle.c_answers.specs.Numbers.{readNumbers}
-use Rattle.c_answers.specs.Place.{body-inside, burst-short, body-there, refused-none}
+use Rattle.reader.specs.Answers.Place.{body-inside, burst-short, body-there, refused-none}
 use borrow.Author.Needs.{needs}
 use Rattle.c_answers.proofs.read_numbers.Statement.{statement}
 use Rattle.c_answers.proofs.read_numbers.Tie as tie

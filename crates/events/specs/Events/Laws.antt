@@ -1,12 +1,12 @@
 -- An event in its parts: turned down by 16 to 18, turned down by the base's call, or reaching the base; and that storing the base
 -- that it reached gives the net after the event.
-use Prim.Native.Nat.{ℕ, zero, suc, _-_, _<_, _≤_}
+use Prim.Native.Nat.{ℕ, zero, suc, _+_, _*_, _-_, _<_, _≤_}
 use mathlib.Core.Path.{_≡_, refl, sym, ap, ap₂, _∙_}
 use mathlib.Core.Logic.{_≢_}
 use mathlib.Core.Bool.{Bool, true, false}
 use mathlib.Core.List.{List, [], _∷_}
 use borrow.Author.Tests.{eq-eqb, ne-eqb, eqb-false, lt-ltb, le-ltb}
-use lib.ListN.{length, getD, set}
+use lib.ListN.{length, getD, set, take, drop}
 use lib.Dec.{eqb, ltb}
 use Rattle.limits.specs.Limits.{mostBases, outputRoom}
 use Rattle.limits.specs.Refusals.{netRefusal}
@@ -26,9 +26,10 @@ use Rattle.lists.specs.Choice.Laws.{
   first-passed,
 }
 use Rattle.frame.specs.Reading.{burstRefusal, readRefusal}
-use Rattle.reader.specs.declared.Reading.the-variants.{Refused}
-use Rattle.reader.specs.Answers.{readingOf}
+use Rattle.reader.specs.declared.Reading.the-variants.{Message, Refused}
+use Rattle.reader.specs.Answers.{readingOf, idArray}
 use Rattle.reader.specs.Answers.Laws.{reading-refused}
+use Rattle.reader.specs.Answers.Place.{body-there}
 use Rattle.protocol.specs.declared.Base.{Base}
 use Rattle.protocol.specs.Numbering.{linkTo}
 use Rattle.protocol.specs.Sound.Laws.{record-passed}
@@ -36,6 +37,8 @@ use Rattle.protocol.specs.Steps.{Done, start, arrival, arrivalRefusal}
 use Rattle.protocol.specs.Steps.Answers.{arrival-number, start-refused, arrival-refused}
 use Rattle.protocol.specs.Net.{Event, starts, carry, forge, at, good, broadcast, call, callRefusal, eventRefusal, refusal}
 use Rattle.protocol.specs.Net as Nets
+use Rattle.engine.specs.Hearing.{messageArrival}
+use Rattle.engine.specs.Hearing.Bursts.{read-heard}
 use Rattle.node.specs.declared.Frame.{Frame}
 use Rattle.node.specs.declared.Node.{Node}
 use Rattle.node_calls.specs.declared.Told.{Told}
@@ -142,10 +145,18 @@ module _ (u : Node) (faulty : List Nets.Pair) (a b : ℕ) (bytes : List ℕ) {g 
   forge-unread f {r} e = chosen-no _ (sym eg ∙ f)
       (ap (λ (x : Node). record { refusal = 0; node = x }) (sym (arrival-down u (linkTo b a) bytes (unread (u .base) (linkTo b a) r e))))
 
-  pub forge-heard : g ≡ false → {link : ℕ} → link ≡ linkTo b a → {t : Told}
-      → t ≡ told u (arrival (u .base) link bytes outputRoom) → record { refusal = 0; node = t .node } ≡ forgedTo u faulty a b bytes
+  -- what was read arrives
+  pub forge-heard : g ≡ false → {kind count start : ℕ} → readingOf (u .base .n) bytes ≡ Message kind count start
+      → {ids : List ℕ} → ids ≡ idArray (take (start + 4 * count - start) (drop start bytes))
+      → {link : ℕ} → link ≡ linkTo b a → {t : Told} → t ≡ told u (messageArrival (u .base) link kind ids outputRoom)
+      → record { refusal = 0; node = t .node } ≡ forgedTo u faulty a b bytes
   unfolding forgedTo told
-  forge-heard f el et = chosen-no _ (sym eg ∙ f) (rw (et, el))
+  forge-heard f e {ids} ei {link} el et =
+      let q = ei ∙ ap idArray (body-there _ _ _ _ _ e) in
+      chosen-no _ (sym eg ∙ f) (ap (λ (x : Told). record { refusal = 0; node = x .node }) et
+      ∙ ap (λ (d : Done). record { refusal = 0; node = Nodes.nodeAfter u d })
+      (sym (read-heard (u .base) link bytes outputRoom _ _ _ e ids q))
+      ∙ ap (λ (x : ℕ). record { refusal = 0; node = Nodes.nodeAfter u (arrival (u .base) x bytes outputRoom) }) el)
 
 -- ---- what they do to the net
 -- storing what is there changes nothing

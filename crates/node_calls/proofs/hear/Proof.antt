@@ -14,22 +14,25 @@ slice-aggregate-arrive c = search needs
 arrive-requires : tie.Need-arrive-requires
 arrive-requires c κs = search needs
 
+changed-requires : tie.Need-changed-requires
+changed-requires c κs = search needs
+
 slice-aggregate-settle : tie.Need-slice-aggregate-settle
 slice-aggregate-settle c = search needs
 
 settle-requires : tie.Need-settle-requires
-settle-requires c κs = call-fits (c .before .before .before .before .before .before .before .args .node)
-    _ (arrival-tidy _ _ _ _ (node-base (c .before .before .before .before .before .before .before .args .node)
-    _ (c .before .before .before .before .before .before .before .good .0))
-    (λ i. omega (arith, c .before .before .before .before .before .before .shared-slice-known .given i)))
-    _ refl (c .before .before .before .arrive .ensures .0) (c .before .before .before .arrive .ensures .1)
+settle-requires c κs =
+    let s = c .before .before .before .before .before .before .before in
+    call-fits (s .args .node) _ (arrival-tidy _ _ _ _ (node-base (s .args .node) _ (s .good .0))
+    (λ i. omega (arith, c .before .before .before .before .before .before .shared-slice-known .given i))) _ refl
+    (c .before .before .before .arrive .ensures)
 
 returns : tie.Need-returns
-returns c = call-told (c .before .before .before .before .before .before .before .before .args .node)
-    _ (arrival-tidy _ _ _ _ (node-base (c .before .before .before .before .before .before .before .before .args .node)
-    _ (c .before .before .before .before .before .before .before .before .good .0))
+returns c =
+    let s = c .before .before .before .before .before .before .before .before in
+    call-told (s .args .node) _ (arrival-tidy _ _ _ _ (node-base (s .args .node) _ (s .good .0))
     (λ i. omega (arith, c .before .before .before .before .before .before .before .shared-slice-known .given i))) _ refl
-    (c .before .before .before .before .arrive .ensures .0) (c .before .before .before .before .arrive .ensures .1) (c .settle .ensures)
+    (c .before .before .before .before .arrive .ensures) (c .before .before .changed .ensures) (c .settle .ensures)
 
 pub hear-spec : {M : Type 1} → statement M
 hear-spec =
@@ -37,6 +40,7 @@ hear-spec =
     (tie.spec
     slice-aggregate-arrive
     arrive-requires
+    changed-requires
     slice-aggregate-settle
     settle-requires
     returns)

@@ -18,11 +18,12 @@ use Rattle.frame.specs.Encoding.Laws.{length-over}
 use Rattle.protocol.specs.declared.Base.{Base}
 use Rattle.protocol.specs.declared.Outcome.{Outcome}
 use Rattle.protocol.specs.declared.Outcome.the-variants.{Accepted, Discarded, Refused}
-use Rattle.protocol.specs.declared.Step.{Step}
 use Rattle.protocol.specs.Net.{callRefusal}
-use Rattle.protocol.specs.Steps.{Answer, accepted, discarded, refused, Done, encodeAll, lengths, outcomeOf, stepOf, outputOf}
+use Rattle.protocol.specs.Steps.{Answer, accepted, discarded, refused, Done, encodeAll, lengths, outcomeOf, outputOf}
 use Rattle.protocol.specs.Steps.Answers.{Unchanged}
 use Rattle.protocol.specs.Steps.Output.{lengths-sum}
+use Rattle.change.specs.declared.Change.{Change}
+use Rattle.change.specs.Change.{changedBase, Does}
 use Rattle.node.specs.declared.Frame.{Frame}
 use Rattle.node.specs.declared.Node.{Node}
 use Rattle.node_calls.specs.declared.Told.{Told}
@@ -144,14 +145,13 @@ module _ (v : Node) (d : Done) (T : Tidy (v .base) d) (out : List ℕ) (wide : l
   settled-answer discarded e = ap (λ (w : Node). record { refusal = 0; node = w }) (three-joined v (d .base) (d .says) out (T .brief .few))
   settled-answer (refused r) e = ap (λ (w : Node). record { refusal = r; node = w }) (sym (after-unchanged v d (T .down r e)))
 
-  pub call-fits : {step : Step} {written : List ℕ} → step ≡ stepOf d → written ≡ outputOf d out → Fitting (step .outcome) (length written)
-  unfolding stepOf
-  call-fits e o = rw (e, o) (fitting-answer (d .answer))
+  pub call-fits : {c : Change} {written : List ℕ} → Does (v .base) d c out written → Fitting (c .outcome) (length written)
+  call-fits D = rw (D .changes .outcome, D .written) (fitting-answer (d .answer))
 
-  pub call-told : {step : Step} {written : List ℕ} {t : Told}
-      → step ≡ stepOf d → written ≡ outputOf d out → t ≡ settledOf v (step .base) (step .outcome) written → t ≡ told v d
-  unfolding stepOf told
-  call-told e o t = t ∙ rw (e, o) (settled-answer (d .answer) refl)
+  pub call-told : {c : Change} {next : Base} {written : List ℕ} {t : Told}
+      → Does (v .base) d c out written → next ≡ changedBase (v .base) c → t ≡ settledOf v next (c .outcome) written → t ≡ told v d
+  unfolding told
+  call-told D e t = t ∙ rw (e, D .changes .base, D .changes .outcome, D .written) (settled-answer (d .answer) refl)
 
 -- ---- an outcome that is known
 abbrev Fits : ℕ → ℕ → ℕ → ℕ → Type 0

@@ -1,7 +1,7 @@
 -- What the calls of a base answer and broadcast fits where the program keeps it: three frames at most, each in its place, all of
 -- them in the output; and a call that is turned down changes nothing. So what is taken from the output are the frames that the call
 -- broadcast.
-use Prim.Native.Nat.{ℕ, _+_, _≤_}
+use Prim.Native.Nat.{ℕ, _+_, _^_, _≤_}
 use mathlib.Core.Path.{_≡_, refl}
 use mathlib.Core.List.{List, [], _∷_, _++_}
 use native.Mathlib.Omega.{arith}
@@ -28,6 +28,7 @@ use Rattle.protocol.specs.Steps.{
   start,
   arrivalStep,
   arrival,
+  encodeAll,
 }
 use Rattle.protocol.specs.Steps.Answers.{Unchanged}
 use Rattle.protocol.specs.Steps.Cases.{
@@ -48,9 +49,11 @@ use Rattle.protocol.specs.Steps.Cases.{
   arrival-step-cases,
 }
 use Rattle.protocol.specs.Steps.Laws.{takes-rest}
-use Rattle.protocol.specs.Steps.Output.{start-brief, arrival-brief}
+use Rattle.protocol.specs.Steps.Output.{start-step-brief, arrival-step-brief}
 use Rattle.protocol.specs.Steps.Refusals.{Heard, start-cases, arrival-cases, arrival-heard}
 use Rattle.protocol.specs.Steps.Sizes.{Brief, valid-fits, decides-fits}
+use Rattle.engine.specs.Hearing.{messageArrival}
+use Rattle.engine.specs.Hearing.Valid.{message-heard, message-cases}
 
 -- ---- each frame fits in its place
 abbrev pub AllShort : List Message → Type 0
@@ -130,27 +133,29 @@ pub record Tidy (b : Base) (d : Done) : Type 0 where
   pub small : AllShort (d .says)
   pub down : (r : ℕ) → d .answer ≡ refused r → Unchanged b d
 
-record Ended (b : Base) (d : Done) : Type 0 where
-  small : AllShort (d .says)
-  down : (r : ℕ) → d .answer ≡ refused r → Unchanged b d
+refuses-tidy : (b : Base) (r : ℕ) → Tidy b (refuses b r)
+unfolding refuses encodeAll
+refuses-tidy b r = record {
+  brief = record { few = omega arith; small = omega arith };
+  small = tt;
+  down = λ _ _. record { base = refl; says = refl };
+}
 
-refuses-ended : (b : Base) (r : ℕ) → Ended b (refuses b r)
-unfolding refuses
-refuses-ended b r = record { small = tt; down = λ _ _. record { base = refl; says = refl } }
+stepped-tidy : (b : Base) (d : Done) → Brief 3 outputRoom d → Stepped d → Tidy b d
+stepped-tidy b d B S = record { brief = B; small = S .small; down = λ r e. absurd (S .answered r e) }
 
-stepped-ended : (b : Base) (d : Done) → Stepped d → Ended b d
-stepped-ended b d S = record { small = S .small; down = λ r e. absurd (S .answered r e) }
+heard-tidy : (b : Base) (i : ℕ) (m : Message) → Sized b → Heard b i m → Tidy b (arrivalStep b i m)
+heard-tidy b i m S H = stepped-tidy b _ (arrival-step-brief b i m S H) (arrival-stepped b i m H)
 
 pub start-tidy : (b : Base) (room : ℕ) → Tidy b (start b room)
-start-tidy b room = record { brief = start-brief b room; small = E .small; down = E .down }
-  where
-    E : Ended b (start b room)
-    E = start-cases (Ended b) b room (λ r _. refuses-ended b r)
-        (λ _. stepped-ended b _ (start-step-cases Stepped b (λ _. begins-stepped b) (λ _. discards-stepped b)))
+start-tidy b room = start-cases (Tidy b) b room (λ r _. refuses-tidy b r)
+    (λ _. stepped-tidy b _ (start-step-brief b) (start-step-cases Stepped b (λ _. begins-stepped b) (λ _. discards-stepped b)))
 
 pub arrival-tidy : (b : Base) (link : ℕ) (burst : List ℕ) (room : ℕ) → Sized b → Below 256 burst → Tidy b (arrival b link burst room)
-arrival-tidy b link burst room S bytes = record { brief = arrival-brief b link burst room S bytes; small = E .small; down = E .down }
-  where
-    E : Ended b (arrival b link burst room)
-    E = arrival-cases (Ended b) b link burst
-        room (λ r _. refuses-ended b r) (λ e. stepped-ended b _ (arrival-stepped b _ _ (arrival-heard b link burst room bytes e)))
+arrival-tidy b link burst room S bytes =
+    arrival-cases (Tidy b) b link burst room (λ r _. refuses-tidy b r) (λ e. heard-tidy b _ _ S (arrival-heard b link burst room bytes e))
+
+pub message-tidy : (b : Base) (link kind : ℕ) (ids : List ℕ) (room : ℕ) → Sized b → length ids ≡ mostBases → Below (2 ^ 32) ids
+    → Tidy b (messageArrival b link kind ids room)
+message-tidy b link kind ids room S l words = message-cases b link kind ids room (Tidy b) (refuses-tidy b)
+    (λ p e. heard-tidy b _ _ S (message-heard b link kind ids room l words p e))

@@ -1,0 +1,47 @@
+-- `node_calls::hear_message` meets its contract: the frames of a message that was read fit, and are those that it broadcast.
+use mathlib.Core.Path.{refl}
+use Rattle.node_calls.proofs.Words.{array-words}
+use Rattle.node_calls.specs.Calls.Tidy.{message-tidy}
+use Rattle.node_calls.specs.Calls.Laws.{call-fits, call-told}
+use Rattle.node.proofs.Sizes.{node-base}
+use borrow.Author.Needs.{needs}
+use Rattle.node_calls.proofs.hear_message.Statement.{statement}
+use Rattle.node_calls.proofs.hear_message.Tie as tie
+
+slice-aggregate-hear : tie.Need-slice-aggregate-hear
+slice-aggregate-hear c = search needs
+
+hear-requires : tie.Need-hear-requires
+hear-requires c κs = search needs
+
+changed-requires : tie.Need-changed-requires
+changed-requires c κs = search needs
+
+slice-aggregate-settle : tie.Need-slice-aggregate-settle
+slice-aggregate-settle c = search needs
+
+settle-requires : tie.Need-settle-requires
+settle-requires c κs =
+    let s = c .before .before .before .before .before .before in
+    let G = s .good .1 .1 .1 .0 in
+    call-fits (s .args .node) _ (message-tidy _ _ _ _ _ (node-base (s .args .node) _ (s .good .0))
+    (G .1 .0 .1) (array-words (s .args .ids) (G .0) (G .1 .1))) _ refl (c .before .before .before .hear .ensures)
+
+returns : tie.Need-returns
+returns c =
+    let s = c .before .before .before .before .before .before .before in
+    let G = s .good .1 .1 .1 .0 in
+    call-told (s .args .node) _ (message-tidy _ _ _ _ _ (node-base (s .args .node) _ (s .good .0))
+    (G .1 .0 .1) (array-words (s .args .ids) (G .0) (G .1 .1))) _ refl
+    (c .before .before .before .before .hear .ensures) (c .before .before .changed .ensures) (c .settle .ensures)
+
+pub hear-message-spec : {M : Type 1} → statement M
+hear-message-spec =
+    tie.close
+    (tie.spec
+    slice-aggregate-hear
+    hear-requires
+    changed-requires
+    slice-aggregate-settle
+    settle-requires
+    returns)
