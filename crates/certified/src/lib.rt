@@ -2,7 +2,7 @@
 use held::has_announce;
 use limits::MOST_BASES;
 use limits::MOST_LINKS;
-use lists::holds;
+use membership::holds;
 use protocol::Base;
 ghost use Prim.Native.Nat.{_-_, _≤_, min};
 ghost use mathlib.Core.Path.{_≡_};

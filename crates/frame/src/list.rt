@@ -1,7 +1,7 @@
 // Numbers 11 and 12: the identifiers of a message.
+use comparison::ascends;
 use limits::refusal;
-use lists::ascends;
-use lists::none_zero;
+use membership::none_zero;
 ghost use mathlib.Core.Path.{_≡_};
 ghost use Rattle.frame.specs.Reading.{listRefusal};
 

@@ -1,7 +1,7 @@
 // What one link holds.
+use comparison::same;
 use limits::MOST_BASES;
-use lists::holds;
-use lists::same;
+use membership::holds;
 use protocol::Link;
 ghost use mathlib.Core.Path.{_≡_};
 ghost use lib.ListN.{take};

@@ -1,10 +1,10 @@
 // Whether what is held of one link is sound, or nothing.
+use comparison::ascends;
+use comparison::zero_behind;
 use held::held_count;
 use limits::MOST_BASES;
-use lists::ascends;
-use lists::differ;
-use lists::none_zero;
-use lists::zero_behind;
+use membership::differ;
+use membership::none_zero;
 use protocol::Link;
 ghost use mathlib.Core.Path.{_≡_};
 ghost use Rattle.protocol.specs.Sound.{listSound, verifiesSound, heldSound, linkSound, linkEmpty, placeSound};

@@ -1,11 +1,11 @@
 // Whether a record is sound.
 use certified::certified_ids;
+use comparison::zero_behind;
 use limits::MOST_LINKS;
 use link_soundness::link_empty;
 use link_soundness::list_sound;
 use link_soundness::place_sound;
-use lists::differ;
-use lists::zero_behind;
+use membership::differ;
 use protocol::Base;
 use protocol::IDLE;
 use protocol::PRIME;

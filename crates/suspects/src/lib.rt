@@ -3,7 +3,7 @@ use certified::link_count;
 use counting::one;
 use held::has_announce;
 use held::holds_verify;
-use lists::holds;
+use membership::holds;
 use protocol::Base;
 use protocol::Link;
 ghost use mathlib.Core.Path.{_≡_};

@@ -5,7 +5,7 @@ use certified::link_count;
 use counting::one;
 use held::holds_verify;
 use limits::MOST_BASES;
-use lists::holds;
+use membership::holds;
 use protocol::Base;
 use protocol::Link;
 ghost use Prim.Native.Nat.{_*_, _≤_};

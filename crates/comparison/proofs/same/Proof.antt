@@ -1,4 +1,4 @@
--- `lists::same` meets its contract. Two fronts of different lengths are not the same;
+-- `comparison::same` meets its contract. Two fronts of different lengths are not the same;
 -- else the invariant says that they are the same exactly if they are from i on.
 use Prim.Native.Nat.{_-_}
 use mathlib.Core.Path.{_≡_, refl, sym, _∙_}
@@ -6,10 +6,10 @@ use native.Mathlib.Omega.{arith}
 use borrow.Author.Needs.{needs}
 use lib.Seq.{getD-take}
 use lib.ListN.{take, drop, length-take}
 use Rattle.lists.specs.Lists.Laws.{same-broken, same-next, same-end, same-lengths}
 use Rattle.lists.specs.Lists.{sameList}
-use Rattle.lists.proofs.same.Statement.{statement}
-use Rattle.lists.proofs.same.Tie as tie
+use Rattle.comparison.proofs.same.Statement.{statement}
+use Rattle.comparison.proofs.same.Tie as tie
 
 abbrev Inv-loop : tie.InvT-loop
 Inv-loop a b count end i₀ i = sameList (take count a) (take count b) ≡ sameList (drop i (take count a)) (drop i (take count b))

@@ -1,10 +1,10 @@
--- `lists::none_zero` meets its contract: no zero stands there exactly if zero is no member.
+-- `membership::none_zero` meets its contract: no zero stands there exactly if zero is no member.
 use mathlib.Core.Bool.{not}
 use mathlib.Core.Path.{sym, ap, _∙_}
 use borrow.Author.Needs.{needs}
 use Rattle.lists.specs.Lists.Laws.{nonzero-member}
-use Rattle.lists.proofs.none_zero.Statement.{statement}
-use Rattle.lists.proofs.none_zero.Tie as tie
+use Rattle.membership.proofs.none_zero.Statement.{statement}
+use Rattle.membership.proofs.none_zero.Tie as tie
 
 holds-requires : tie.Need-holds-requires
 holds-requires c κs = search needs

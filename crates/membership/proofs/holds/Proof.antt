@@ -1,14 +1,14 @@
--- `lists::holds` meets its contract. Invariant: x stands from the first place on exactly if it stands from i on.
+-- `membership::holds` meets its contract. Invariant: x stands from the first place on exactly if it stands from i on.
 use Prim.Native.Nat.{_-_}
 use mathlib.Core.Path.{_≡_, refl, sym, _∙_}
 use native.Mathlib.Omega.{arith}
 use borrow.Author.Needs.{needs}
 use lib.Seq.{getD-take}
 use lib.ListN.{take, drop, length-take}
 use Rattle.lists.specs.Lists.Laws.{member-found, member-next, member-end}
 use Rattle.lists.specs.Lists.{member}
-use Rattle.lists.proofs.holds.Statement.{statement}
-use Rattle.lists.proofs.holds.Tie as tie
+use Rattle.membership.proofs.holds.Statement.{statement}
+use Rattle.membership.proofs.holds.Tie as tie
 
 abbrev Inv-loop : tie.InvT-loop
 Inv-loop ids from count x end i₀ i = member x (drop from (take count ids)) ≡ member x (drop i (take count ids))

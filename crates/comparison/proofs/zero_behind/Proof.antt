@@ -1,12 +1,12 @@
--- `lists::zero_behind` meets its contract. Invariant: all behind are zero exactly if all from i on are.
+-- `comparison::zero_behind` meets its contract. Invariant: all behind are zero exactly if all from i on are.
 use Prim.Native.Nat.{_-_}
 use mathlib.Core.Path.{_≡_, refl, sym, _∙_}
 use native.Mathlib.Omega.{arith}
 use lib.ListN.{length, drop}
 use Rattle.lists.specs.Lists.Laws.{zeros-broken, zeros-next, zeros-end}
 use Rattle.lists.specs.Lists.{zeros}
-use Rattle.lists.proofs.zero_behind.Statement.{statement}
-use Rattle.lists.proofs.zero_behind.Tie as tie
+use Rattle.comparison.proofs.zero_behind.Statement.{statement}
+use Rattle.comparison.proofs.zero_behind.Tie as tie
 
 abbrev Inv-loop : tie.InvT-loop
 Inv-loop ids count i₀ i = zeros (drop count ids) ≡ zeros (drop i ids)

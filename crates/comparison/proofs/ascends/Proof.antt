@@ -1,14 +1,14 @@
--- `lists::ascends` meets its contract. Invariant: the identifiers ascend exactly if they ascend from i on.
+-- `comparison::ascends` meets its contract. Invariant: the identifiers ascend exactly if they ascend from i on.
 use Prim.Native.Nat.{_≤_, _-_, _+_}
 use mathlib.Core.Path.{_≡_, refl, sym, _∙_}
 use native.Mathlib.Omega.{arith}
 use borrow.Author.Needs.{needs}
 use lib.Seq.{getD-take}
 use lib.ListN.{take, drop, length-take}
 use Rattle.lists.specs.Lists.Laws.{ascending-broken, ascending-next, ascending-end}
 use Rattle.lists.specs.Lists.{ascending}
-use Rattle.lists.proofs.ascends.Statement.{statement}
-use Rattle.lists.proofs.ascends.Tie as tie
+use Rattle.comparison.proofs.ascends.Statement.{statement}
+use Rattle.comparison.proofs.ascends.Tie as tie
 
 abbrev Inv-loop : tie.InvT-loop
 Inv-loop ids count end i₀ i = (i ≤ end) × (ascending (take count ids) ≡ ascending (drop i (take count ids)))

@@ -1,14 +1,14 @@
--- `lists::differ` meets its contract. Invariant: none stands there twice exactly if none does from i on.
+-- `membership::differ` meets its contract. Invariant: none stands there twice exactly if none does from i on.
 use Prim.Native.Nat.{_≤_, _-_}
 use mathlib.Core.Path.{_≡_, refl, sym, _∙_}
 use native.Mathlib.Omega.{arith}
 use borrow.Author.Needs.{needs}
 use lib.Seq.{getD-take}
 use lib.ListN.{take, drop, length-take}
 use Rattle.lists.specs.Lists.Laws.{distinct-broken, distinct-next, distinct-end}
 use Rattle.lists.specs.Lists.{distinct}
-use Rattle.lists.proofs.differ.Statement.{statement}
-use Rattle.lists.proofs.differ.Tie as tie
+use Rattle.membership.proofs.differ.Statement.{statement}
+use Rattle.membership.proofs.differ.Tie as tie
 
 abbrev Inv-loop : tie.InvT-loop
 Inv-loop ids count end i₀ i = (i ≤ end) × (distinct (take count ids) ≡ distinct (drop i (take count ids)))
