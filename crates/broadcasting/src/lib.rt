@@ -4,7 +4,7 @@ use frame::kind::Shape;
 use frame::kind::shape_of;
 use limits::MOST_BASES;
 use protocol::Outcome;
-use writer::put;
+use framing::put;
 ghost use mathlib.Core.Path.{_≡_};
 ghost use mathlib.Core.List.{_++_};
 ghost use Prim.Native.Nat.{_≤_};

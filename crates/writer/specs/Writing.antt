@@ -2,12 +2,13 @@
 use mathlib.Core.Bool.{Bool}
 use mathlib.Core.List.{List, _++_}
 use Prim.Native.Nat.{ℕ, _-_}
-use lib.Dec.{eqb, ltb, leb}
+use lib.Dec.{eqb, ltb}
 use lib.ListN.{length}
 use Rattle.lists.specs.Choice.{choose, and, first}
 use Rattle.frame.specs.Message.{lengthOf}
 use Rattle.frame.specs.Encoding.{frameOf, over}
 use Rattle.frame.specs.Reading.{kindRefusal, listRefusal}
+use Rattle.framing.specs.Framing.{frameFits}
 use Rattle.limits.specs.Refusals.{netRefusal}
 use Rattle.writer.specs.declared.TwoLengths.{TwoLengths}
 use Rattle.writer.specs.declared.Written.{Written}
@@ -15,19 +16,7 @@ use Rattle.writer.specs.declared.Written.the-variants.{Length, Refused}
 pub mod Laws
 pub mod Theorems
 
--- ---- frames at the front of an output
--- a kind that there is, as many identifiers as it holds, and room for the frame
-unfoldable pub frameFits : ℕ → ℕ → ℕ → ℕ → Bool
-frameFits n kind count room = and (eqb (kindRefusal n kind count) 0) (leb (lengthOf kind n) room)
-
--- one frame
-unfoldable pub putLength : ℕ → ℕ → ℕ → ℕ → ℕ
-putLength n kind count room = choose (frameFits n kind count room) (lengthOf kind n) 0
-
-unfoldable pub putOutput : ℕ → ℕ → List ℕ → List ℕ → List ℕ
-putOutput n kind ids output = choose (frameFits n kind (length ids) (length output)) (over (frameOf kind ids) output) output
-
--- two frames of the same identifiers, one after the other: the second fits in the room that the first leaves
+-- ---- two frames of the same identifiers, one after the other: the second fits in the room that the first leaves
 unfoldable pub twoFit : ℕ → ℕ → ℕ → ℕ → ℕ → Bool
 twoFit n kind next count room = and (frameFits n kind count room) (frameFits n next count (room - lengthOf kind n))
 

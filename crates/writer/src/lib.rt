@@ -1,30 +1,15 @@
-// Frames at the front of an output. What stands past them in the output stays as it was.
-mod bytes;
-
-use crate::bytes::put_four;
-use crate::bytes::put_identifier;
+// Frames at the front of an output: two of the same identifiers, or that of a message which may be turned down. What stands past them in the
+// output stays as it was.
 use frame::kind::kind_refusal;
 use frame::kind::length_of;
 use frame::list::list_refusal;
-use limits::IDENTIFIER_BYTES;
-use limits::TRAILER_BYTES;
+use framing::frame_fits;
+use framing::put;
 use limits::net_refusal;
 use limits::refusal;
 ghost use mathlib.Core.Path.{_≡_};
-ghost use Prim.Native.Nat.{_≤_, _<_};
 ghost use lib.ListN.{length};
-ghost use Rattle.limits.specs.Limits.{frameBytes};
-ghost use Rattle.frame.specs.Encoding.{frameOf, over};
-ghost use Rattle.writer.specs.Writing.{
-  frameFits,
-  putLength,
-  putOutput,
-  twoLengths,
-  twoOutput,
-  writeRefusal,
-  writtenOf,
-  writeOutput,
-};
+ghost use Rattle.writer.specs.Writing.{twoLengths, twoOutput, writeRefusal, writtenOf, writeOutput};
 
 // What a write answers: the frame's length, or the number by which it is turned down.
 pub enum Written {
@@ -36,51 +21,6 @@ pub enum Written {
 pub struct TwoLengths {
     pub front: usize,
     pub next: usize,
-}
-
-// A frame of so many bytes, which is its back distance too.
-fn put_frame(kind: u8, size: usize, ids: &[u32], out: &mut [u8])
-    requires { ⌜ (length (now ids) < 256) × ((size ≡ frameBytes (length (now ids))) × (size ≤ length (now out))) ⌝ }
-    ensures { λ r. ⌜ now (out .exit) ≡ over (frameOf kind (now (ids .entry))) (now (out .entry)) ⌝ }
-{
-    let count = ids.len();
-    let mut i: usize = 0;
-    while i < count {
-        put_identifier(out, IDENTIFIER_BYTES * i, ids[i]);
-        i += 1;
-    }
-    put_four(
-        out,
-        size - TRAILER_BYTES,
-        kind,
-        count as u8,
-        (size / 256 % 256) as u8,
-        (size % 256) as u8,
-    );
-}
-
-// Whether a frame of a kind with so many identifiers fits in so much room.
-fn frame_fits(kind: u8, n: u8, count: usize, room: usize) -> bool
-    ensures { λ r. ⌜ r ≡ frameFits n kind count room ⌝ }
-{
-    if kind_refusal(kind, count, n) != 0 {
-        return false;
-    }
-    length_of(kind, n) <= room
-}
-
-// The frame of a kind and its identifiers in a net of n bases; the answer is its length. Nothing is written, length 0, for a kind that
-// there is not, for a list of another count than the kind holds, and where the output has no room for it.
-pub fn put(kind: u8, n: u8, ids: &[u32], out: &mut [u8]) -> usize
-    ensures { λ r. ⌜ (r ≡ putLength n kind (length (now (ids .entry))) (length (now (out .entry))))
-        × (now (out .exit) ≡ putOutput n kind (now (ids .entry)) (now (out .entry))) ⌝ }
-{
-    if !frame_fits(kind, n, ids.len(), out.len()) {
-        return 0;
-    }
-    let size = length_of(kind, n);
-    put_frame(kind, size, ids, out);
-    size
 }
 
 // Two frames of the same identifiers, where both are as `put` asks and the output has the room for both; the second goes into the rest of
@@ -96,9 +36,8 @@ pub fn put_two(kind: u8, next: u8, n: u8, ids: &[u32], out: &mut [u8]) -> TwoLen
     if !frame_fits(next, n, ids.len(), out.len() - front) {
         return TwoLengths { front: 0, next: 0 };
     }
-    let back = length_of(next, n);
-    put_frame(kind, front, ids, out);
-    put_frame(next, back, ids, &mut out[front..]);
+    put(kind, n, ids, out);
+    let back = put(next, n, ids, &mut out[front..]);
     TwoLengths { front, next: back }
 }
 
@@ -128,7 +67,5 @@ pub fn write(n: usize, kind: u8, ids: &[u32], out: &mut [u8]) -> Written
     if refusal != 0 {
         return Written::Refused(refusal);
     }
-    let size = length_of(kind, n as u8);
-    put_frame(kind, size, ids, out);
-    Written::Length(size)
+    Written::Length(put(kind, n as u8, ids, out))
 }

@@ -1,4 +1,4 @@
--- `broadcasting::say` meets its contract: a kind that there is not, more identifiers than the array has, and else what the writer puts.
+-- `broadcasting::say` meets its contract: a kind that there is not, more identifiers than the array has, and else what is put.
 use Rattle.broadcasting.specs.Broadcasting.Laws.{nothing-said, unknown-frame, long-frame, put-frame}
 use Rattle.frame.specs.Message.Laws.{shape-known, shape-unknown}
 use Rattle.limits.specs.Limits.{mostBases}

@@ -15,8 +15,8 @@ use Rattle.frame.specs.Encoding.{frameOf, over}
 use Rattle.frame.specs.Encoding.Laws.{length-frame, over-nothing}
 use Rattle.frame.specs.Reading.{kindRefusal}
 use Rattle.frame.specs.Reading.Laws.{kind-unknown, kind-size}
-use Rattle.writer.specs.Writing.{frameFits, putLength, putOutput}
-use Rattle.writer.specs.Writing.Laws.{fits-passed}
+use Rattle.framing.specs.Framing.{frameFits, putLength, putOutput}
+use Rattle.framing.specs.Framing.Laws.{fits-passed}
 use Rattle.protocol.specs.declared.Outcome.{Outcome}
 use Rattle.broadcasting.specs.Broadcasting.{frameIn, lastFrame, acceptedWith}
 

@@ -1,28 +1,28 @@
 -- `writer::put_two` meets its contract: the second frame lies in the rest of the output, right behind the first.
 use mathlib.Core.Path.{_≡_, refl, sym, ap₂, _∙_}
+use mathlib.Core.Bool.{true}
 use native.Mathlib.Omega.{arith}
 use borrow.Author.Tests.{not-true, not-false}
-use Prim.Native.Nat.{ℕ, _≤_, _<_}
-use lib.ListN.{length, length-take, length-drop}
-use Rattle.limits.specs.Limits.{frameBytes}
+use Prim.Native.Nat.{ℕ, _≤_}
+use lib.ListN.{length}
 use Rattle.lists.specs.Choice.Laws.{chosen-yes, chosen-no}
 use Rattle.frame.specs.Encoding.Laws.{over-rest, length-frame}
+use Rattle.frame.specs.Reading.Laws.{kind-size}
+use Rattle.framing.specs.Framing.{frameFits}
+use Rattle.framing.specs.Framing.Laws.{fits-passed, put-length, put-output}
 use Rattle.writer.specs.Writing.{twoLengths, twoOutput}
-use Rattle.writer.specs.Writing.Laws.{fits-passed, fits-asks, two-fit, two-fail}
+use Rattle.writer.specs.Writing.Laws.{two-fit, two-fail, part-fits}
 use borrow.Author.Needs.{needs}
 use Rattle.writer.proofs.put_two.Statement.{statement}
 use Rattle.writer.proofs.put_two.Tie as tie
 
--- what is known of the first frame, as put_frame asks it
-front : (c : tie.After-put-frame) → let a = c .before .before .before .before .before .before .before .before .before .before .args in
-    (length (a .ids .now) < 256) × ((c .before .before .before .before .before .length-of .result ≡ frameBytes (length (a .ids .now)))
-    × (c .before .before .before .before .before .length-of .result ≤ length (a .out .now)))
-front c =
-    let a = c .before .before .before .before .before .before .before .before .before .before .args in
-    let frame-fits = c .before .before .before .before .before .before .before .frame-fits in
-    let if1 = c .before .before .before .before .before .before .if1 in
-    let length-of = c .before .before .before .before .before .length-of in
-    fits-asks (a .n) (a .kind) _ _ _ (omega arith) (length-of .ensures) (sym (frame-fits .ensures) ∙ not-false _ (if1 .left))
+-- the first frame fits
+front-fits : (c : tie.After-length-of) → let a = c .before .before .before .before .before .args in
+    frameFits (a .n) (a .kind) (length (a .ids .now)) (length (a .out .now)) ≡ true
+front-fits c = sym (c .before .before .frame-fits .ensures) ∙ not-false _ (c .before .if1 .left)
+
+front-within : (c : tie.After-length-of) → c .length-of .result ≤ length (c .before .before .before .before .before .args .out .now)
+front-within c = omega (arith, c .length-of .ensures, fits-passed _ _ _ _ (front-fits c) .1)
 
 frame-fits-requires : tie.Need-frame-fits-requires
 frame-fits-requires c κs = search needs
@@ -37,11 +37,7 @@ length-of-requires : tie.Need-length-of-requires
 length-of-requires c κs = search needs
 
 sub-frame-fits : tie.Need-sub-frame-fits
-sub-frame-fits c =
-    let frame-fits = c .before .before .frame-fits in
-    let a = c .before .before .before .before .before .args in
-    omega
-    (arith, c .length-of .ensures, fits-passed (a .n) (a .kind) _ _ (sym (frame-fits .ensures) ∙ not-false _ (c .before .if1 .left)) .1)
+sub-frame-fits c = front-within c
 
 frame-fits-requires-2 : tie.Need-frame-fits-requires-2
 frame-fits-requires-2 c κs = search needs
@@ -49,43 +45,25 @@ frame-fits-requires-2 c κs = search needs
 returns-2 : tie.Need-returns-2
 unfolding twoLengths twoOutput
 returns-2 c =
-    let frame-fits = c .before .before .before .before .frame-fits in
-    let if1 = c .before .before .before .if1 in
-    let length-of = c .before .before .length-of in
     let e =
-    two-fit _ _ _ _ _ _ (length-of .ensures) (sym (frame-fits .ensures) ∙ not-false _ (if1 .left))
+    two-fit _ _ _ _ _ _ (c .before .before .length-of .ensures) (front-fits (c .before .before))
     (sym (c .before .frame-fits2 .ensures) ∙ not-true _ (c .if2 .taken)) in
     (chosen-no _ e refl, chosen-no _ e refl)
 
-length-of-requires-2 : tie.Need-length-of-requires-2
-length-of-requires-2 c κs = search needs
+put-requires : tie.Need-put-requires
+put-requires c κs = search needs
 
-put-frame-requires : tie.Need-put-frame-requires
-put-frame-requires c κs =
-    let frame-fits = c .before .before .before .before .before .before .frame-fits in
-    let if1 = c .before .before .before .before .before .if1 in
-    let length-of = c .before .before .before .before .length-of in
-    let a = c .before .before .before .before .before .before .before .before .before .args in
-    fits-asks (a .n) (a .kind) _ _ _ (omega arith) (length-of .ensures) (sym (frame-fits .ensures) ∙ not-false _ (if1 .left))
+sub-put : tie.Need-sub-put
+sub-put c = omega (arith, front-within (c .before .before .before .before .before .before), c .before .before .put .kept)
 
-sub-put-frame : tie.Need-sub-put-frame
-sub-put-frame c = omega (arith, front (c .before .before), c .before .before .put-frame .kept)
+part-put-start : tie.Need-part-put-start
+part-put-start c = omega (arith, front-within (c .before .before .before .before .before .before), c .before .before .put .kept)
 
-part-put-frame-start : tie.Need-part-put-frame-start
-part-put-frame-start c = omega (arith, front (c .before .before), c .before .before .put-frame .kept)
+part-put-end : tie.Need-part-put-end
+part-put-end c = search needs
 
-part-put-frame-end : tie.Need-part-put-frame-end
-part-put-frame-end c = search needs
-
-put-frame-requires-2 : tie.Need-put-frame-requires-2
-put-frame-requires-2 c κs =
-    let frame-fits2 = c .before .before .before .before .before .before .before .frame-fits2 in
-    let if2 = c .before .before .before .before .before .before .if2 in
-    let length-of2 = c .before .before .before .before .before .length-of2 in
-    let put-frame = c .before .before .before .put-frame in
-    let a = c .before .before .before .before .before .before .before .before .before .before .before .before .before .args in
-    let q = fits-asks (a .n) (a .next) _ _ _ (omega arith) (length-of2 .ensures) (sym (frame-fits2 .ensures) ∙ not-false _ (if2 .left)) in
-    (q .0, (q .1 .0, simp (length-take, length-drop) (omega (arith, q .1 .1, put-frame .kept))))
+put-requires-2 : tie.Need-put-requires-2
+put-requires-2 c κs = search needs
 
 same-length : tie.Need-same-length
 same-length c = search needs
@@ -93,18 +71,20 @@ same-length c = search needs
 returns-3 : tie.Need-returns-3
 unfolding twoLengths twoOutput
 returns-3 c =
-    let next = c .before .before .put-frame2 in
-    let size2 = c .before .before .before .before .before .before .before .before .length-of2 in
-    let first = c .before .before .before .before .before .before in
-    let two = c .before .before .before .before .before .before .before .before .before in
-    let one = two .before .before .before in
-    let a = one .before .before .before .before .args in
-    let size = two .before .before .length-of .ensures in
-    let e = two-fit _ _ _ _ _ _ size (sym (one .before .frame-fits .ensures) ∙ not-false _ (one .if1 .left))
-    (sym (two .before .frame-fits2 .ensures) ∙ not-false _ (two .if2 .left)) in
-    let long = front first .1 .0 ∙ sym (length-frame (a .kind) (a .ids .now)) in (
-      chosen-yes _ e (ap₂ (λ (x y : ℕ). record { front = x; next = y }) size (size2 .ensures)),
-      chosen-yes _ e (over-rest _ _ _ _ _ _ _ long refl (first .put-frame .ensures) (next .ensures)),
+    let two = c .before .before in
+    let one = c .before .before .before .before .before .before in
+    let both = one .before .before in
+    let size = both .before .before in
+    let a = size .before .before .before .before .before .args in
+    let fit = front-fits size in
+    let fit2 = sym (both .before .frame-fits2 .ensures) ∙ not-false _ (both .if2 .left) in
+    let e = two-fit _ _ _ _ _ _ (size .length-of .ensures) fit fit2 in
+    let fits2 = part-fits _ _ _ (one .put .last .1 .1 .1 .0) (a .out .now) _ (omega (arith, one .put .kept)) fit2 in
+    let long = size .length-of .ensures ∙ kind-size _ _ _ (fits-passed _ _ _ _ fit .0) ∙ sym (length-frame (a .kind) (a .ids .now)) in (
+      chosen-yes _ e (ap₂ (λ (x y : ℕ). record { front = x; next = y }) (size .length-of .ensures)
+      (two .put2 .ensures .0 ∙ put-length _ _ _ _ fits2)),
+      chosen-yes _ e (over-rest _ _ _ _ _ _ _ long refl
+      (one .put .ensures .1 ∙ put-output _ _ _ _ fit) (two .put2 .ensures .1 ∙ put-output _ _ _ _ fits2)),
     )
 
 pub put-two-spec : {M : Type 1} → statement M
@@ -117,11 +97,10 @@ put-two-spec =
     sub-frame-fits
     frame-fits-requires-2
     returns-2
-    length-of-requires-2
-    put-frame-requires
-    sub-put-frame
-    part-put-frame-start
-    part-put-frame-end
-    put-frame-requires-2
+    put-requires
+    sub-put
+    part-put-start
+    part-put-end
+    put-requires-2
     same-length
     returns-3)

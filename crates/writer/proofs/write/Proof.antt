@@ -3,9 +3,10 @@ use mathlib.Core.Path.{refl, sym, ap, _∙_}
 use native.Mathlib.Omega.{arith}
 use borrow.Author.Tests.{eq-eqb, ne-eqb}
 use Rattle.lists.specs.Choice.Laws.{chosen-yes, chosen-no}
+use Rattle.framing.specs.Framing.Laws.{put-length, put-output}
 use Rattle.writer.specs.declared.Written.the-variants.{Length, Refused}
 use Rattle.writer.specs.Writing.{writtenOf, writeOutput}
-use Rattle.writer.specs.Writing.Laws.{fits-asks, write-passed}
+use Rattle.writer.specs.Writing.Laws.{write-passed}
 use borrow.Author.Needs.{needs}
 use Rattle.writer.proofs.write.Statement.{statement}
 use Rattle.writer.proofs.write.Tie as tie
@@ -20,21 +21,13 @@ returns c =
     let e = ne-eqb _ 0 (λ z. c .if1 .taken (r ∙ z)) in
     (chosen-no _ e (ap Refused r), chosen-no _ e refl)
 
-cast-length-of : tie.Need-cast-length-of
-cast-length-of c =
+cast-put : tie.Need-cast-put
+cast-put c =
     let a = c .before .before .before .before .args in
     omega (arith, write-passed (a .n) (a .kind) (a .ids .now) _ (sym (c .before .write-refusal .ensures) ∙ c .if1 .left) .few)
 
-length-of-requires : tie.Need-length-of-requires
-length-of-requires c κs = search needs
-
-put-frame-requires : tie.Need-put-frame-requires
-put-frame-requires c κs =
-    let write-refusal = c .before .before .before .write-refusal in
-    let if1 = c .before .before .if1 in
-    let a = c .before .before .before .before .before .before .args in
-    let p = write-passed (a .n) (a .kind) (a .ids .now) _ (sym (write-refusal .ensures) ∙ if1 .left) in
-    fits-asks (a .n) (a .kind) _ _ _ (omega (arith, p .few)) (c .before .length-of .ensures) (p .fit)
+put-requires : tie.Need-put-requires
+put-requires c κs = search needs
 
 same-length : tie.Need-same-length
 same-length c = search needs
@@ -42,21 +35,13 @@ same-length c = search needs
 returns-2 : tie.Need-returns-2
 unfolding writtenOf writeOutput
 returns-2 c =
-    let write-refusal = c .before .before .before .before .before .before .write-refusal in
-    let if1 = c .before .before .before .before .before .if1 in
-    let length-of = c .before .before .before .before .length-of in
-    let put-frame = c .before .before .put-frame in
-    let e = eq-eqb _ 0 (sym (write-refusal .ensures) ∙ if1 .left) in
-    (chosen-yes _ e (ap Length (length-of .ensures)), chosen-yes _ e (put-frame .ensures))
+    let a = c .before .before .before .before .before .before .before .before .args in
+    let none = sym (c .before .before .before .before .before .write-refusal .ensures) ∙ c .before .before .before .before .if1 .left in
+    let e = eq-eqb _ 0 none in
+    let fit = write-passed (a .n) (a .kind) (a .ids .now) _ none .fit in (
+      chosen-yes _ e (ap Length (c .before .before .put .ensures .0 ∙ put-length _ _ _ _ fit)),
+      chosen-yes _ e (c .before .before .put .ensures .1 ∙ put-output _ _ _ _ fit),
+    )
 
 pub write-spec : {M : Type 1} → statement M
-write-spec =
-    tie.close
-    (tie.spec
-    write-refusal-requires
-    returns
-    cast-length-of
-    length-of-requires
-    put-frame-requires
-    same-length
-    returns-2)
+write-spec = tie.close (tie.spec write-refusal-requires returns cast-put put-requires same-length returns-2)

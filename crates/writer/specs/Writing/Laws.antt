@@ -4,39 +4,23 @@ use mathlib.Core.Bool.{Bool, true, false}
 use mathlib.Core.List.{List, _++_}
 use Prim.Native.Nat.{ℕ, _*_, _-_, _≤_, _<_}
 use native.Mathlib.Omega.{arith}
-use borrow.Author.Tests.{lt-ltb, le-ltb, le-leb, eq-eqb, ltb-false, leb-true, eqb-true}
-use lib.ListN.{length}
+use borrow.Author.Tests.{lt-ltb, le-ltb, ltb-false}
+use lib.ListN.{length, take, drop, length-take, length-drop}
 use Rattle.limits.specs.Limits.{mostBases, frameBytes}
 use Rattle.limits.specs.Refusals.{netRefusal}
 use Rattle.limits.specs.Refusals.Laws.{net-passed}
 use Rattle.lists.specs.Choice.{first}
-use Rattle.lists.specs.Choice.Laws.{choose-yes, choose-no, and-true, and-both, and-fails, and-goes-on, passed, first-none, first-given}
+use Rattle.lists.specs.Choice.Laws.{choose-yes, choose-no, and-fails, and-goes-on, passed, first-none, first-given}
 use Rattle.lists.specs.Choice.Laws.{first-passed}
 use Rattle.frame.specs.Encoding.{frameOf, over}
 use Rattle.frame.specs.Message.{known, expected, lengthOf}
 use Rattle.frame.specs.Reading.{kindRefusal, listRefusal}
-use Rattle.frame.specs.Reading.Laws.{kind-passed, kind-size, kind-few}
-use Rattle.writer.specs.Writing.{frameFits, putLength, putOutput, twoFit, twoLengths, twoOutput, writeRefusal}
+use Rattle.frame.specs.Reading.Laws.{kind-passed, kind-size}
+use Rattle.framing.specs.Framing.{frameFits}
+use Rattle.framing.specs.Framing.Laws.{fits}
+use Rattle.writer.specs.Writing.{twoFit, twoLengths, twoOutput, writeRefusal}
 
--- ---- whether a frame fits
-pub fits : (n kind count room : ℕ) → kindRefusal n kind count ≡ 0 → lengthOf kind n ≤ room → frameFits n kind count room ≡ true
-unfolding frameFits
-fits n kind count room e h = and-both (eq-eqb (kindRefusal n kind count) 0 e) (le-leb (lengthOf kind n) room h)
-
-pub fits-passed : (n kind count room : ℕ) → frameFits n kind count room ≡ true → (kindRefusal n kind count ≡ 0) × (lengthOf kind n ≤ room)
-unfolding frameFits
-fits-passed n kind count room e =
-    let p = and-true _ _ e in
-    (eqb-true (kindRefusal n kind count) 0 (p .0), leb-true (lengthOf kind n) room (p .1))
-
--- what writing a frame that fits asks: a count that fits in a byte, the frame's size, and room for it
-pub fits-asks : (n kind count room size : ℕ) → n < 256 → size ≡ lengthOf kind n → frameFits n kind count room ≡ true
-    → (count < 256) × ((size ≡ frameBytes count) × (size ≤ room))
-fits-asks n kind count room size small e f =
-    let p = fits-passed n kind count room f in
-    (omega (arith, kind-few n kind count 255 (p .0) (omega arith) (omega arith)), (e ∙ kind-size n kind count (p .0), omega (arith, p .1)))
-
--- two frames fit if the second fits behind the first, and not where the first does not
+-- ---- two frames fit if the second fits behind the first, and not where the first does not
 pub two-fit : (n kind next count room front : ℕ) {t : Bool} → front ≡ lengthOf kind n
     → frameFits n kind count room ≡ true → frameFits n next count (room - front) ≡ t → twoFit n kind next count room ≡ t
 unfolding twoFit
@@ -46,19 +30,16 @@ pub two-fail : (n kind next count room : ℕ) → frameFits n kind count room �
 unfolding twoFit
 two-fail n kind next count room e = sym (and-fails _ e)
 
--- ---- frames that fit are written
-module _ (n kind : ℕ) (ids output : List ℕ) (e : kindRefusal n kind (length ids) ≡ 0) (h : frameBytes (length ids) ≤ length output) where
-  one-fits : frameFits n kind (length ids) (length output) ≡ true
-  one-fits = fits n kind (length ids) (length output) e (omega (arith, kind-size n kind (length ids) e))
+-- what fits behind the first frame fits in the rest of an output of the same length
+pub part-fits : (n kind count : ℕ) (after output : List ℕ) (front : ℕ) → length after ≡ length output
+    → frameFits n kind count (length output - front) ≡ true
+    → frameFits n kind count (length (take (length after - front) (drop front after))) ≡ true
+part-fits n kind count after output front e f =
+    let rest : length (take (length after - front) (drop front after)) ≡ length output - front =
+    simp (length-take, length-drop) (omega (arith, e)) in
+    ap (frameFits n kind count) rest ∙ f
 
-  pub put-length : putLength n kind (length ids) (length output) ≡ frameBytes (length ids)
-  unfolding putLength
-  put-length = choose-yes (lengthOf kind n) 0 one-fits ∙ kind-size n kind (length ids) e
-
-  pub put-output : putOutput n kind ids output ≡ over (frameOf kind ids) output
-  unfolding putOutput
-  put-output = choose-yes (over (frameOf kind ids) output) output one-fits
-
+-- frames of a kind that there is, of its count, with twice the room, are written
 module _ (n kind next : ℕ) (ids output : List ℕ)
     (e : kindRefusal n kind (length ids) ≡ 0) (f : kindRefusal n next (length ids) ≡ 0)
     (h : 2 * frameBytes (length ids) ≤ length output) where

@@ -1,10 +1,10 @@
--- `writer::bytes::put_four` meets its contract: four stores in a row are one replacement of four bytes.
+-- `framing::bytes::put_four` meets its contract: four stores in a row are one replacement of four bytes.
 use native.Mathlib.Omega.{arith}
 use borrow.Author.Needs.{needs}
 use lib.ListN.{length-set}
-use Rattle.writer.proofs.Stores.{four-stored}
-use Rattle.writer.proofs.bytes.put_four.Statement.{statement}
-use Rattle.writer.proofs.bytes.put_four.Tie as tie
+use Rattle.framing.proofs.Stores.{four-stored}
+use Rattle.framing.proofs.bytes.put_four.Statement.{statement}
+use Rattle.framing.proofs.bytes.put_four.Tie as tie
 
 slice-write-out : tie.Need-slice-write-out
 slice-write-out c = search needs

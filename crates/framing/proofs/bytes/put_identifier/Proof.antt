@@ -1,8 +1,8 @@
--- `writer::bytes::put_identifier` meets its contract: what put_four ensures of the number's four bytes.
+-- `framing::bytes::put_identifier` meets its contract: what put_four ensures of the number's four bytes.
 use borrow.Author.Needs.{needs}
 use Rattle.frame.specs.Encoding.{fourBytes}
-use Rattle.writer.proofs.bytes.put_identifier.Statement.{statement}
-use Rattle.writer.proofs.bytes.put_identifier.Tie as tie
+use Rattle.framing.proofs.bytes.put_identifier.Statement.{statement}
+use Rattle.framing.proofs.bytes.put_identifier.Tie as tie
 
 cast-put-four : tie.Need-cast-put-four
 cast-put-four c = search needs

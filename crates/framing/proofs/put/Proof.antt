@@ -1,13 +1,13 @@
--- `writer::put` meets its contract: a frame that fits meets what put_frame asks, and no other is written.
+-- `framing::put` meets its contract: a frame that fits meets what put_frame asks, and no other is written.
 use mathlib.Core.Path.{refl, sym, _∙_}
 use native.Mathlib.Omega.{arith}
 use borrow.Author.Tests.{not-true, not-false}
 use Rattle.lists.specs.Choice.Laws.{chosen-yes, chosen-no}
-use Rattle.writer.specs.Writing.{putLength, putOutput}
-use Rattle.writer.specs.Writing.Laws.{fits-asks}
+use Rattle.framing.specs.Framing.{putLength, putOutput}
+use Rattle.framing.specs.Framing.Laws.{fits-asks}
 use borrow.Author.Needs.{needs}
-use Rattle.writer.proofs.put.Statement.{statement}
-use Rattle.writer.proofs.put.Tie as tie
+use Rattle.framing.proofs.put.Statement.{statement}
+use Rattle.framing.proofs.put.Tie as tie
 
 frame-fits-requires : tie.Need-frame-fits-requires
 frame-fits-requires c κs = search needs

@@ -1,12 +1,12 @@
--- `writer::put_frame` meets its contract. Invariant: the output holds the body of the first i identifiers, and is as it was past them.
+-- `framing::put_frame` meets its contract. Invariant: the output holds the body of the first i identifiers, and is as it was past them.
 use Prim.Native.Nat.{_≤_, _-_}
 use mathlib.Core.Path.{_≡_, refl}
 use native.Mathlib.Omega.{arith}
 use lib.ListN.{length, take}
 use Rattle.frame.specs.Encoding.{body, over}
-use Rattle.writer.proofs.Stores.{next-stored, frame-stored}
-use Rattle.writer.proofs.put_frame.Statement.{statement}
-use Rattle.writer.proofs.put_frame.Tie as tie
+use Rattle.framing.proofs.Stores.{next-stored, frame-stored}
+use Rattle.framing.proofs.put_frame.Statement.{statement}
+use Rattle.framing.proofs.put_frame.Tie as tie
 
 abbrev Inv-loop : tie.InvT-loop
 Inv-loop kind size ids out₀ count i₀ out i = (i ≤ count) × ((length out ≡ length out₀) × (out ≡ over (body (take i ids)) out₀))

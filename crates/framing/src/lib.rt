@@ -1,0 +1,60 @@
+// One frame at the front of an output. What stands past it in the output stays as it was.
+mod bytes;
+
+use crate::bytes::put_four;
+use crate::bytes::put_identifier;
+use frame::kind::kind_refusal;
+use frame::kind::length_of;
+use limits::IDENTIFIER_BYTES;
+use limits::TRAILER_BYTES;
+ghost use mathlib.Core.Path.{_≡_};
+ghost use Prim.Native.Nat.{_≤_, _<_};
+ghost use lib.ListN.{length};
+ghost use Rattle.limits.specs.Limits.{frameBytes};
+ghost use Rattle.frame.specs.Encoding.{frameOf, over};
+ghost use Rattle.framing.specs.Framing.{frameFits, putLength, putOutput};
+
+// A frame of so many bytes, which is its back distance too.
+fn put_frame(kind: u8, size: usize, ids: &[u32], out: &mut [u8])
+    requires { ⌜ (length (now ids) < 256) × ((size ≡ frameBytes (length (now ids))) × (size ≤ length (now out))) ⌝ }
+    ensures { λ r. ⌜ now (out .exit) ≡ over (frameOf kind (now (ids .entry))) (now (out .entry)) ⌝ }
+{
+    let count = ids.len();
+    let mut i: usize = 0;
+    while i < count {
+        put_identifier(out, IDENTIFIER_BYTES * i, ids[i]);
+        i += 1;
+    }
+    put_four(
+        out,
+        size - TRAILER_BYTES,
+        kind,
+        count as u8,
+        (size / 256 % 256) as u8,
+        (size % 256) as u8,
+    );
+}
+
+// Whether a frame of a kind with so many identifiers fits in so much room.
+pub fn frame_fits(kind: u8, n: u8, count: usize, room: usize) -> bool
+    ensures { λ r. ⌜ r ≡ frameFits n kind count room ⌝ }
+{
+    if kind_refusal(kind, count, n) != 0 {
+        return false;
+    }
+    length_of(kind, n) <= room
+}
+
+// The frame of a kind and its identifiers in a net of n bases; the answer is its length. Nothing is written, length 0, for a kind that
+// there is not, for a list of another count than the kind holds, and where the output has no room for it.
+pub fn put(kind: u8, n: u8, ids: &[u32], out: &mut [u8]) -> usize
+    ensures { λ r. ⌜ (r ≡ putLength n kind (length (now (ids .entry))) (length (now (out .entry))))
+        × (now (out .exit) ≡ putOutput n kind (now (ids .entry)) (now (out .entry))) ⌝ }
+{
+    if !frame_fits(kind, n, ids.len(), out.len()) {
+        return 0;
+    }
+    let size = length_of(kind, n);
+    put_frame(kind, size, ids, out);
+    size
+}
