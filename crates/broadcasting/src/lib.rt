@@ -2,9 +2,9 @@
 use frame::kind::CORRECT_FINAL;
 use frame::kind::Shape;
 use frame::kind::shape_of;
+use framing::put;
 use limits::MOST_BASES;
 use protocol::Outcome;
-use framing::put;
 ghost use mathlib.Core.Path.{_≡_};
 ghost use mathlib.Core.List.{_++_};
 ghost use Prim.Native.Nat.{_≤_};

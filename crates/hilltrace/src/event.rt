@@ -3,6 +3,8 @@ use crate::walk::Walk;
 use crate::walk::halt;
 use crate::walk::onward;
 use crate::walk::show_line;
+use hexadecimal::hex_bytes;
+use hexadecimal::hex_bytes;
 use limits::refusal::FORM;
 use lines::event::Line;
 use lines::event::event_line;
@@ -11,7 +13,6 @@ use net::nodes::with_node;
 use node::log::broadcast;
 use numbering::link_to;
 use output::parts::part;
-use text::hex::hex_bytes;
 use trace::call;
 use trace::call::Arrival;
 

@@ -5,7 +5,7 @@ use lib.Dec.{eqb}
 use lib.ListN.{length, drop}
 use Rattle.limits.specs.Limits.{outputRoom, longestForgery}
 use Rattle.lists.specs.Choice.{choose}
-use Rattle.text.specs.Hex.{hexBytes}
+use Rattle.hexadecimal.specs.Hex.{hexBytes}
 use Rattle.lines.specs.declared.event.Line.{Line}
 use Rattle.lines.specs.declared.event.Line.the-variants.{Start, Carry, Forge, Wrong}
 use Rattle.protocol.specs.Net.{good, starts, carry, forge, waiting}

@@ -8,7 +8,7 @@ use lib.ListN.{getD, set, drop}
 use Rattle.limits.specs.Limits.{mostBases, outputRoom}
 use Rattle.lists.specs.Choice.{choose}
 use Rattle.lists.specs.Choice.Laws.{choose-yes}
-use Rattle.text.specs.Hex.{hexBytes}
+use Rattle.hexadecimal.specs.Hex.{hexBytes}
 use Rattle.lines.specs.declared.event.Line.{Line}
 use Rattle.lines.specs.declared.event.Line.the-variants.{Start, Carry, Forge, Wrong}
 use Rattle.lines.specs.Lines.{isBase, eventLine}

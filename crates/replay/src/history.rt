@@ -1,17 +1,17 @@
 // The lines of events.
 use crate::state::ReplayState;
 use events::Reached;
+use hexadecimal::hex_bytes;
 use limits::MOST_BASES;
 use lines::event::Line;
 use lines::event::event_line;
 use net::Faulty;
 use node::Node;
-use text::hex::hex_bytes;
 ghost use mathlib.Core.Path.{_≡_};
 ghost use Prim.Native.Nat.{_≤_, _<_, _*_};
 ghost use lib.ListN.{length, drop};
 ghost use Rattle.limits.specs.Limits.{mostBases, longestForgery};
-ghost use Rattle.text.specs.Hex.{hexBytes};
+ghost use Rattle.hexadecimal.specs.Hex.{hexBytes};
 ghost use Rattle.net.specs.Abstraction.{pairsOf};
 ghost use Rattle.events.specs.Events.{forgedTo};
 ghost use Rattle.schedule.specs.Walk.{nextLine, repeat};

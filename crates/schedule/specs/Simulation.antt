@@ -13,7 +13,7 @@ use Rattle.limits.specs.Refusals.{sizeRefusal}
 use Rattle.lists.specs.Choice.{choose}
 use Rattle.text.specs.declared.number.Number.{Number}
 use Rattle.text.specs.declared.number.Number.the-variants.{Value, Bad}
-use Rattle.text.specs.Hex.{hexBytes}
+use Rattle.hexadecimal.specs.Hex.{hexBytes}
 use Rattle.lines.specs.declared.bases.Two.{Two}
 use Rattle.lines.specs.declared.bases.Two.the-variants.{Both, Neither}
 use Rattle.lines.specs.declared.event.Line.{Line}

@@ -9,7 +9,7 @@ use lib.ListN.{length, drop}
 use Rattle.limits.specs.Limits.{outputRoom, longestSchedule}
 use Rattle.limits.specs.Refusals.{sizeRefusal}
 use Rattle.lists.specs.Choice.{choose}
-use Rattle.text.specs.Hex.{hexBytes}
+use Rattle.hexadecimal.specs.Hex.{hexBytes}
 use Rattle.lines.specs.declared.event.Line.{Line}
 use Rattle.lines.specs.declared.event.Line.the-variants.{Start, Carry, Forge, Wrong}
 use Rattle.lines.specs.Lines.{afterNumber, afterTwo, netLine, idLine, faultyLine, eventLine}

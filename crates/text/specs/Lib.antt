@@ -1,4 +1,3 @@
 pub mod Rest
 pub mod Number
 pub mod Word
-pub mod Hex

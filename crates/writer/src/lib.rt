@@ -1,5 +1,5 @@
-// Frames at the front of an output: two of the same identifiers, or that of a message which may be turned down. What stands past them in the
-// output stays as it was.
+// Frames at the front of an output: two of the same identifiers, or that of a message, which may be turned down. What stands past them
+// in the output stays as it was.
 use frame::kind::kind_refusal;
 use frame::kind::length_of;
 use frame::list::list_refusal;

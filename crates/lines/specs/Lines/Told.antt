@@ -14,14 +14,14 @@ use Rattle.text.specs.declared.number.Number.{Number}
 use Rattle.text.specs.declared.number.Number.the-variants.{Value, Bad}
 use Rattle.text.specs.declared.word.Word.{Word}
 use Rattle.text.specs.declared.word.Word.the-variants.{Past, Other}
-use Rattle.text.specs.declared.hex.Hex.{Hex}
-use Rattle.text.specs.declared.hex.Hex.the-variants as hex
+use Rattle.hexadecimal.specs.declared.Hex.{Hex}
+use Rattle.hexadecimal.specs.declared.Hex.the-variants as hex
 use Rattle.text.specs.Number.{mostNumber, fieldAt}
 use Rattle.text.specs.Number.Range.{Field, field-within}
 use Rattle.text.specs.Word.{wordAt}
 use Rattle.text.specs.Word.Laws.{Behind, word-behind}
-use Rattle.text.specs.Hex.{hexAt}
-use Rattle.text.specs.Hex.Range.{HexRange, hex-burst}
+use Rattle.hexadecimal.specs.Hex.{hexAt}
+use Rattle.hexadecimal.specs.Hex.Range.{HexRange, hex-burst}
 use Rattle.lines.specs.declared.bases.Two.{Two}
 use Rattle.lines.specs.declared.bases.Two.the-variants.{Both, Neither}
 use Rattle.lines.specs.declared.event.Line.{Line}

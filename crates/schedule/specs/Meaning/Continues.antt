@@ -8,8 +8,8 @@ use lib.Dec.{leb, ltb}
 use lib.ListN.{length, drop}
 use Rattle.limits.specs.Limits.{outputRoom, longestSchedule}
 use Rattle.lists.specs.Choice.Laws.{choose-ind}
-use Rattle.text.specs.Hex.{hexBytes}
-use Rattle.text.specs.Hex.Range.{bytes-below}
+use Rattle.hexadecimal.specs.Hex.{hexBytes}
+use Rattle.hexadecimal.specs.Hex.Range.{bytes-below}
 use Rattle.lines.specs.declared.event.Line.{Line}
 use Rattle.lines.specs.declared.event.Line.the-variants.{Start, Carry, Forge, Wrong}
 use Rattle.lines.specs.Lines.{isBase, twoBases, eventLine}

@@ -11,7 +11,7 @@ use Rattle.limits.specs.Limits.{outputRoom}
 use Rattle.lists.specs.Choice.{choose}
 use Rattle.lists.specs.Choice.Laws.{choose-ind, choose-yes, choose-no, first-none}
 use Rattle.frame.specs.Reading.{burstRefusal}
-use Rattle.text.specs.Hex.{hexBytes}
+use Rattle.hexadecimal.specs.Hex.{hexBytes}
 use Rattle.lines.specs.declared.event.Line.{Line}
 use Rattle.lines.specs.declared.event.Line.the-variants.{Start, Carry, Forge, Wrong}
 use Rattle.lines.specs.Lines.{eventLine}

@@ -82,9 +82,9 @@ returns-3 c =
     let fits2 = part-fits _ _ _ (one .put .last .1 .1 .1 .0) (a .out .now) _ (omega (arith, one .put .kept)) fit2 in
     let long = size .length-of .ensures ∙ kind-size _ _ _ (fits-passed _ _ _ _ fit .0) ∙ sym (length-frame (a .kind) (a .ids .now)) in (
       chosen-yes _ e (ap₂ (λ (x y : ℕ). record { front = x; next = y }) (size .length-of .ensures)
-      (two .put2 .ensures .0 ∙ put-length _ _ _ _ fits2)),
+          (two .put2 .ensures .0 ∙ put-length _ _ _ _ fits2)),
       chosen-yes _ e (over-rest _ _ _ _ _ _ _ long refl
-      (one .put .ensures .1 ∙ put-output _ _ _ _ fit) (two .put2 .ensures .1 ∙ put-output _ _ _ _ fits2)),
+          (one .put .ensures .1 ∙ put-output _ _ _ _ fit) (two .put2 .ensures .1 ∙ put-output _ _ _ _ fits2)),
     )
 
 pub put-two-spec : {M : Type 1} → statement M

@@ -7,8 +7,8 @@ use mathlib.Core.List.{List}
 use lib.ListN.{length, take, drop}
 use lib.Seq.{length-take-le}
 use denote.Ref.{now}
-use Rattle.text.specs.Hex.{hexBytes}
-use Rattle.text.specs.Hex.Laws.{length-hex, hex-front}
+use Rattle.hexadecimal.specs.Hex.{hexBytes}
+use Rattle.hexadecimal.specs.Hex.Laws.{length-hex, hex-front}
 use Rattle.net.specs.Abstraction.{pairsOf}
 use Rattle.events.specs.Events.{forgedTo}
 use Rattle.replay.proofs.history.forge_bytes.Statement.{statement}

@@ -7,8 +7,8 @@ use lib.ListN.{drop}
 use Rattle.limits.specs.Limits.{longestForgery}
 use Rattle.lists.specs.Choice.{choose, and, or}
 use Rattle.lists.specs.Lists.{padTo}
-use Rattle.text.specs.declared.hex.Hex.{Hex}
-use Rattle.text.specs.declared.hex.Hex.the-variants.{Bytes, Bad}
+use Rattle.hexadecimal.specs.declared.Hex.{Hex}
+use Rattle.hexadecimal.specs.declared.Hex.the-variants.{Bytes, Bad}
 pub mod Laws
 pub mod Range
 

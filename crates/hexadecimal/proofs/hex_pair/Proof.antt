@@ -1,10 +1,10 @@
--- `text::hex::hex_pair` meets its contract: two digits, each below 16, make a byte.
+-- `hexadecimal::hex_pair` meets its contract: two digits, each below 16, make a byte.
 use Prim.Native.Nat.{ℕ, _+_, _*_}
 use mathlib.Core.Path.{ap₂}
-use Rattle.text.specs.Hex.{hexPair}
+use Rattle.hexadecimal.specs.Hex.{hexPair}
 use borrow.Author.Needs.{needs}
-use Rattle.text.proofs.hex.hex_pair.Statement.{statement}
-use Rattle.text.proofs.hex.hex_pair.Tie as tie
+use Rattle.hexadecimal.proofs.hex_pair.Statement.{statement}
+use Rattle.hexadecimal.proofs.hex_pair.Tie as tie
 
 hex-digit-requires : tie.Need-hex-digit-requires
 hex-digit-requires c κs = search needs

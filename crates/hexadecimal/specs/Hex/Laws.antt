@@ -13,9 +13,9 @@ use Rattle.lists.specs.Choice.{and}
 use Rattle.lists.specs.Choice.Laws.{choose-yes, choose-no, and-both, and-no}
 use Rattle.lists.specs.Lists.{padTo}
 use Rattle.lists.specs.Lists.Laws.{length-pad, pad-front, pad-next}
-use Rattle.text.specs.declared.hex.Hex.the-variants.{Bytes, Bad}
+use Rattle.hexadecimal.specs.declared.Hex.the-variants.{Bytes, Bad}
 use Rattle.text.specs.Rest.{drop-one}
-use Rattle.text.specs.Hex.{isHex, hexPair, hexFrom, hexBytes, hexArray}
+use Rattle.hexadecimal.specs.Hex.{isHex, hexPair, hexFrom, hexBytes, hexArray}
 
 drop-two : (s : List ℕ) (i : ℕ) → i + 1 < length s → drop i s ≡ getD s i 0 ∷ (getD s (i + 1) 0 ∷ drop (i + 2) s)
 drop-two s i h =

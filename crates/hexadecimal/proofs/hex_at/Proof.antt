@@ -1,11 +1,11 @@
--- `text::hex::hex_at` meets its contract: what the walk over the pairs answers, and the limit of a burst.
+-- `hexadecimal::hex_at` meets its contract: what the walk over the pairs answers, and the limit of a burst.
 use mathlib.Core.Path.{refl, sym, _∙_}
 use borrow.Author.Tests.{lt-ltb, le-ltb}
 use Rattle.lists.specs.Choice.Laws.{chosen-yes, chosen-no}
-use Rattle.text.specs.Hex.{hexAt, atMostForgery}
+use Rattle.hexadecimal.specs.Hex.{hexAt, atMostForgery}
 use borrow.Author.Needs.{needs}
-use Rattle.text.proofs.hex.hex_at.Statement.{statement}
-use Rattle.text.proofs.hex.hex_at.Tie as tie
+use Rattle.hexadecimal.proofs.hex_at.Statement.{statement}
+use Rattle.hexadecimal.proofs.hex_at.Tie as tie
 
 hex-from-requires : tie.Need-hex-from-requires
 hex-from-requires c κs = search needs

@@ -1,10 +1,10 @@
--- `text::hex::is_hex` meets its contract: the tests that led to each return.
+-- `hexadecimal::is_hex` meets its contract: the tests that led to each return.
 use native.Mathlib.Omega.{arith}
 use borrow.Author.Tests.{le-leb, lt-leb}
 use Rattle.lists.specs.Choice.{and, or}
-use Rattle.text.specs.Hex.{isHex}
-use Rattle.text.proofs.hex.is_hex.Statement.{statement}
-use Rattle.text.proofs.hex.is_hex.Tie as tie
+use Rattle.hexadecimal.specs.Hex.{isHex}
+use Rattle.hexadecimal.proofs.is_hex.Statement.{statement}
+use Rattle.hexadecimal.proofs.is_hex.Tie as tie
 
 returns : tie.Need-returns
 unfolding isHex and or

@@ -1,14 +1,14 @@
--- `text::hex::hex_from` meets its contract. Invariant: the walk from the beginning ends as the one from i on does, count bytes being
+-- `hexadecimal::hex_from` meets its contract. Invariant: the walk from the beginning ends as the one from i on does, count bytes being
 -- counted.
 use native.Mathlib.Omega.{arith}
 use borrow.Author.Needs.{needs}
 use Prim.Native.Nat.{_-_, _≤_}
 use mathlib.Core.Path.{_≡_, refl, sym, _∙_}
 use lib.ListN.{length, drop}
-use Rattle.text.specs.Hex.{hexFrom}
-use Rattle.text.specs.Hex.Laws.{from-end, from-feed, from-odd, from-pair, from-first, from-second}
-use Rattle.text.proofs.hex.hex_from.Statement.{statement}
-use Rattle.text.proofs.hex.hex_from.Tie as tie
+use Rattle.hexadecimal.specs.Hex.{hexFrom}
+use Rattle.hexadecimal.specs.Hex.Laws.{from-end, from-feed, from-odd, from-pair, from-first, from-second}
+use Rattle.hexadecimal.proofs.hex_from.Statement.{statement}
+use Rattle.hexadecimal.proofs.hex_from.Tie as tie
 
 abbrev Inv-loop : tie.InvT-loop
 Inv-loop s at i₀ count₀ i count = (count ≤ i) × (hexFrom (drop at s) 0 at ≡ hexFrom (drop i s) count i)

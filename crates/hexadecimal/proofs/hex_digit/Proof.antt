@@ -1,11 +1,11 @@
--- `text::hex::hex_digit` meets its contract: the tests that led to each return.
+-- `hexadecimal::hex_digit` meets its contract: the tests that led to each return.
 use native.Mathlib.Omega.{arith}
 use borrow.Author.Tests.{le-leb, lt-leb}
 use Rattle.lists.specs.Choice.{choose, and}
-use Rattle.text.specs.Hex.{hexDigit}
+use Rattle.hexadecimal.specs.Hex.{hexDigit}
 use borrow.Author.Needs.{needs}
-use Rattle.text.proofs.hex.hex_digit.Statement.{statement}
-use Rattle.text.proofs.hex.hex_digit.Tie as tie
+use Rattle.hexadecimal.proofs.hex_digit.Statement.{statement}
+use Rattle.hexadecimal.proofs.hex_digit.Tie as tie
 
 returns : tie.Need-returns
 unfolding hexDigit and choose

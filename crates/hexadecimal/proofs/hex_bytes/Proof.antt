@@ -1,4 +1,4 @@
--- `text::hex::hex_bytes` meets its contract. Invariant: the array holds the first i bytes, whose digits end at p.
+-- `hexadecimal::hex_bytes` meets its contract. Invariant: the array holds the first i bytes, whose digits end at p.
 use native.Mathlib.Omega.{arith}
 use borrow.Author.Needs.{needs}
 use Prim.Native.Nat.{_+_, _*_, _-_, _≤_}
@@ -6,10 +6,10 @@ use mathlib.Core.Path.{_≡_, sym, _∙_}
 use lib.ListN.{drop}
 use Rattle.limits.specs.Limits.{longestForgery}
 use Rattle.lists.specs.Lists.{padTo}
-use Rattle.text.specs.Hex.{hexBytes}
-use Rattle.text.specs.Hex.Laws.{array-none, array-more, array-all, array-full, array-short}
-use Rattle.text.proofs.hex.hex_bytes.Statement.{statement}
-use Rattle.text.proofs.hex.hex_bytes.Tie as tie
+use Rattle.hexadecimal.specs.Hex.{hexBytes}
+use Rattle.hexadecimal.specs.Hex.Laws.{array-none, array-more, array-all, array-full, array-short}
+use Rattle.hexadecimal.proofs.hex_bytes.Statement.{statement}
+use Rattle.hexadecimal.proofs.hex_bytes.Tie as tie
 
 abbrev Inv-loop : tie.InvT-loop
 Inv-loop s at count bytes₀ p₀ i₀ bytes p i =

@@ -9,9 +9,9 @@ use Rattle.limits.specs.Limits.{longestForgery}
 use Rattle.lists.specs.Choice.{and}
 use Rattle.lists.specs.Choice.Laws.{choose-ind, and-true}
 use Rattle.lists.specs.Lists.{Below}
-use Rattle.text.specs.declared.hex.Hex.{Hex}
-use Rattle.text.specs.declared.hex.Hex.the-variants.{Bytes, Bad}
-use Rattle.text.specs.Hex.{isHex, hexDigit, hexPair, hexFrom, atMostForgery, hexAt, hexBytes}
+use Rattle.hexadecimal.specs.declared.Hex.{Hex}
+use Rattle.hexadecimal.specs.declared.Hex.the-variants.{Bytes, Bad}
+use Rattle.hexadecimal.specs.Hex.{isHex, hexDigit, hexPair, hexFrom, atMostForgery, hexAt, hexBytes}
 
 -- the walk over a rest of m bytes at position p, k bytes being counted: how many more it counted, and how far it went
 abbrev pub Walked : ℕ → ℕ → ℕ → Hex → Type 0

@@ -3,7 +3,7 @@ use limits::LONGEST_FORGERY;
 ghost use mathlib.Core.Path.{_≡_};
 ghost use Prim.Native.Nat.{_<_};
 ghost use lib.ListN.{drop};
-ghost use Rattle.text.specs.Hex.{isHex, hexDigit, hexPair, hexFrom, hexAt, hexArray};
+ghost use Rattle.hexadecimal.specs.Hex.{isHex, hexDigit, hexPair, hexFrom, hexAt, hexArray};
 
 // How many bytes stand there, and the position behind the line feed.
 pub enum Hex {
