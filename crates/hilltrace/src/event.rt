@@ -4,7 +4,6 @@ use crate::walk::halt;
 use crate::walk::onward;
 use crate::walk::show_line;
 use hexadecimal::hex_bytes;
-use hexadecimal::hex_bytes;
 use limits::refusal::FORM;
 use lines::event::Line;
 use lines::event::event_line;
