@@ -1,14 +1,15 @@
 // What the calls answer, as numbers: a function that C calls returns no enum.
+use decoding::identifiers;
 use limits::IDENTIFIER_BYTES;
 use limits::MOST_BASES;
 use protocol::Leader;
 use protocol::Outcome;
 use reader::Reading;
-use reader::identifiers;
 use reader::read;
 use writer::Written;
 ghost use mathlib.Core.Path.{_≡_};
-ghost use Rattle.reader.specs.Answers.{readingOf, stretch, idArray};
+ghost use Rattle.decoding.specs.Decoding.{idArray};
+ghost use Rattle.reader.specs.Answers.{readingOf, stretch};
 ghost use Rattle.c_answers.specs.Numbers.{outcomeNumbers, leaderNumbers, writtenNumbers, readNumbers};
 
 // How a start or an arrival ended, and whether a base names a leader.

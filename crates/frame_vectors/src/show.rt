@@ -59,14 +59,14 @@ fn numbers(ids: [u32; MOST_BASES], count: usize) {
 // The number of the check, the body, and the reading, of a burst in a net of n bases.
 pub(crate) fn reading(n: usize, burst: &[u8]) {
     let number = reader::check(n, burst);
-    let body = reader::body(n, burst);
+    let body = stretch::body(n, burst);
     io::print_decimal(1, wide(number));
     bytes(body);
     match reader::read(n, burst) {
         Reading::Message { kind, count, start } => {
             labelled(b" kind ", wide(kind));
             labelled(b" at ", start as u64);
-            numbers(reader::identifiers(body), count);
+            numbers(decoding::identifiers(body), count);
         }
         Reading::Refused(r) => labelled(b" refused ", wide(r)),
     }

@@ -1,14 +1,9 @@
 // A burst, read from its end.
-mod bytes;
-
-use crate::bytes::identifier_at;
-use crate::bytes::wide;
+use decoding::identifiers;
 use frame::kind::kind_refusal;
 use frame::kind::length_of;
 use frame::list::list_refusal;
-use limits::IDENTIFIER_BYTES;
 use limits::LONGEST_BURST;
-use limits::MOST_BASES;
 use limits::SHORTEST_BURST;
 use limits::TRAILER_BYTES;
 use limits::net_refusal;
@@ -30,7 +25,7 @@ ghost use Rattle.frame.specs.Reading.{
   readRefusal,
 };
 ghost use Rattle.frame.specs.Reading.Laws.{Framed};
-ghost use Rattle.reader.specs.Answers.{stretchStart, stretch, readingOf, idArray};
+ghost use Rattle.reader.specs.Answers.{readingOf};
 
 // What a reading answers: the message's kind, the count of its identifiers and where they start in the burst, or the number by
 // which the burst is turned down.
@@ -41,6 +36,13 @@ pub enum Reading {
         start: usize,
     },
     Refused(u8),
+}
+
+// A byte as a number that counts or measures.
+fn wide(x: u8) -> usize
+    ensures { λ r. ⌜ r ≡ x ⌝ }
+{
+    x as usize
 }
 
 fn back_distance(burst: &[u8]) -> usize
@@ -97,22 +99,6 @@ fn trailer_refusal(n: usize, burst: &[u8]) -> u8
     distance_refusal(burst, length_of(kind, n as u8))
 }
 
-// The identifiers of a body, four bytes each, with zeros behind them.
-pub fn identifiers(body: &[u8]) -> [u32; MOST_BASES]
-    ensures { λ r. ⌜ r ≡ idArray (now (body .entry)) ⌝ }
-{
-    let mut ids = [0u32; MOST_BASES];
-    let mut i: usize = 0;
-    while i < MOST_BASES {
-        if body.len() < IDENTIFIER_BYTES * (i + 1) {
-            return ids;
-        }
-        ids[i] = identifier_at(body, IDENTIFIER_BYTES * i);
-        i += 1;
-    }
-    ids
-}
-
 // The body of a burst whose trailer is right, as that very stretch of the burst.
 fn body_in<'a>(burst: &'a [u8]) -> &'a [u8]
     requires { ⌜ Framed (now burst) ⌝ }
@@ -147,17 +133,6 @@ pub fn check(n: usize, burst: &[u8]) -> u8
         return trailer;
     }
     body_refusal(burst)
-}
-
-// The body as that very stretch of the burst; an empty stretch, at the burst's beginning, where the burst is turned down.
-pub fn body<'a>(n: usize, burst: &'a [u8]) -> &'a [u8]
-    ensures { λ r. ⌜ (now r ≡ stretch n (now (burst .entry)))
-        × ((r .ptr .0 ≡ burst .entry .ptr .0) × (r .ptr .1 ≡ burst .entry .ptr .1 + stretchStart n (now (burst .entry)))) ⌝ }
-{
-    if check(n, burst) != 0 {
-        return &burst[0..0];
-    }
-    body_in(burst)
 }
 
 // The message's kind, the count of its identifiers and where they start, or the number by which the burst is turned down.

@@ -7,7 +7,8 @@ use lib.ListN.{length}
 use Rattle.limits.specs.Limits.{longestBurst}
 use Rattle.reader.specs.declared.Reading.{Reading}
 use Rattle.reader.specs.declared.Reading.the-variants.{Message}
-use Rattle.reader.specs.Answers.{readingOf, idArray}
+use Rattle.decoding.specs.Decoding.{idArray}
+use Rattle.reader.specs.Answers.{readingOf}
 use Rattle.c_answers.specs.Numbers.{readNumbers}
 use Rattle.reader.specs.Answers.Place.{body-inside, burst-short, body-there, refused-none}
 use borrow.Author.Needs.{needs}

@@ -18,8 +18,10 @@ use Rattle.frame.specs.Message.{Message, known, expected}
 use Rattle.frame.specs.Reading.{kindByte, countByte, bodyOf, idsIn, listRefusal, burstRefusal, readRefusal, message, messageOf}
 use Rattle.frame.specs.Reading.Laws.{Framed, Passed, trailer-passed, read-passed, length-ids-in, kind-passes}
 use Rattle.reader.specs.declared.Reading.the-variants as reads
-use Rattle.reader.specs.Answers.{stretch, readingOf, idArray}
-use Rattle.reader.specs.Answers.Laws.{array-of, array-front, reading-message, reading-refused}
+use Rattle.decoding.specs.Decoding.{idArray}
+use Rattle.reader.specs.Answers.{stretch, readingOf}
+use Rattle.decoding.specs.Decoding.Laws.{array-of, array-front}
+use Rattle.reader.specs.Answers.Laws.{reading-message, reading-refused}
 use Rattle.protocol.specs.declared.Base.{Base}
 use Rattle.protocol.specs.Sound.{recordRefusal}
 use Rattle.protocol.specs.Sound.Laws.{record-passed}

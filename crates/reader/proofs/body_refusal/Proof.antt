@@ -5,8 +5,8 @@ use native.Mathlib.Omega.{arith}
 use borrow.Author.Needs.{needs}
 use lib.Seq.{length-take-le}
 use lib.ListN.{length, take}
-use Rattle.reader.specs.Answers.Laws.{array-front, length-array}
-use Rattle.reader.specs.Answers.{idArray}
+use Rattle.decoding.specs.Decoding.Laws.{array-front, length-array}
+use Rattle.decoding.specs.Decoding.{idArray}
 use Rattle.frame.specs.Reading.{listRefusal, countByte, fromEnd}
 use Rattle.reader.proofs.body_refusal.Statement.{statement}
 use Rattle.reader.proofs.body_refusal.Tie as tie

@@ -1,7 +1,7 @@
 -- The place of a message's body in its burst, as the reading answers it.
 use Prim.Native.Nat.{ℕ, _+_, _*_, _-_, _≤_}
 use mathlib.Core.Path.{_≡_, sym, ap, _∙_}
-use mathlib.Core.List.{List}
+use mathlib.Core.List.{List, []}
 use native.Mathlib.Omega.{arith}
 use borrow.Author.Tests.{eq-eqb, ne-eqb}
 use lib.ListN.{take, drop, length, replicate}
@@ -10,9 +10,10 @@ use Rattle.lists.specs.Choice.Laws.{choose-yes, choose-no, first-passed}
 use Rattle.lists.specs.Lists.{padTo}
 use Rattle.frame.specs.Reading.{kindByte, countByte, bodyStart, bodyOf, readRefusal, burstRefusal, identifiers}
 use Rattle.frame.specs.Reading.Laws.{Framed, trailer-passed, read-passed}
+use Rattle.decoding.specs.Decoding.{idArray}
 use Rattle.reader.specs.declared.Reading.{Reading}
 use Rattle.reader.specs.declared.Reading.the-variants.{Message, Refused}
-use Rattle.reader.specs.Answers.{readingOf, stretch, idArray}
+use Rattle.reader.specs.Answers.{readingOf, stretch, stretchStart}
 use Rattle.reader.specs.Answers.Laws.{reading-message, reading-refused}
 
 unfoldable countIn : Reading → ℕ
@@ -58,8 +59,18 @@ module _ (n : ℕ) (s : List ℕ) (kind count start : ℕ) (e : readingOf n s �
       ap (λ (j : ℕ). take j (drop start s)) k ∙ ap (λ (j : ℕ). take (4 * countByte s) (drop j s)) placed
       ∙ sym (choose-yes _ _ (eq-eqb (readRefusal n s) 0 passed))
 
--- a refused burst has no identifiers
+  pub start-there : start ≡ stretchStart n s
+  unfolding stretchStart
+  start-there = placed ∙ sym (choose-yes (bodyStart s) 0 (eq-eqb (readRefusal n s) 0 passed))
+
+-- a refused burst has an empty stretch, and no identifiers
+pub refused-stretch : (n : ℕ) (s : List ℕ) (r : ℕ) → readingOf n s ≡ Refused r → (stretch n s ≡ []) × (stretchStart n s ≡ 0)
+unfolding stretch stretchStart
+refused-stretch n s r e =
+    let q = reading-refused n s r e in
+    let no = ne-eqb (readRefusal n s) 0 (λ z. q .1 (sym (q .0) ∙ z)) in
+    (choose-no (bodyOf s) [] no, choose-no (bodyStart s) 0 no)
+
 pub refused-none : (n : ℕ) (s : List ℕ) (r : ℕ) → readingOf n s ≡ Refused r → idArray (stretch n s) ≡ replicate mostBases 0
-unfolding stretch idArray identifiers padTo
-refused-none n s r e =
-    let q = reading-refused n s r e in ap idArray (choose-no _ _ (ne-eqb (readRefusal n s) 0 (λ z. q .1 (sym (q .0) ∙ z))))
+unfolding idArray identifiers padTo
+refused-none n s r e = ap idArray (refused-stretch n s r e .0)

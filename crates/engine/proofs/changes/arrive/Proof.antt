@@ -2,7 +2,7 @@
 -- the place.
 use Rattle.engine.specs.Hearing.Bursts.{burst-down, read-heard}
 use Rattle.change.specs.Change.Laws.{does-as, refuses-does}
-use Rattle.reader.specs.Answers.{idArray}
+use Rattle.decoding.specs.Decoding.{idArray}
 use Rattle.lists.specs.Choice.{first}
 use mathlib.Core.Path.{sym, ap, _∙_}
 use Prim.Native.Nat.{ℕ}

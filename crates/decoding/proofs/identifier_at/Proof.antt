@@ -1,9 +1,9 @@
--- `reader::bytes::identifier_at` meets its contract: the four bytes from a place on are those that the rest begins with.
+-- `decoding::identifier_at` meets its contract: the four bytes from a place on are those that the rest begins with.
 use mathlib.Core.Path.{_∙_}
 use borrow.Author.Needs.{needs}
 use Rattle.frame.specs.Reading.Laws.{identifier-there}
-use Rattle.reader.proofs.bytes.identifier_at.Statement.{statement}
-use Rattle.reader.proofs.bytes.identifier_at.Tie as tie
+use Rattle.decoding.proofs.identifier_at.Statement.{statement}
+use Rattle.decoding.proofs.identifier_at.Tie as tie
 
 shared-slice-read-joined : tie.Need-shared-slice-read-joined
 shared-slice-read-joined c = search needs

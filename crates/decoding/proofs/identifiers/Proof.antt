@@ -1,17 +1,17 @@
--- `reader::identifiers` meets its contract. Invariant: the array holds the first i identifiers of the body, zeros behind.
+-- `decoding::identifiers` meets its contract. Invariant: the array holds the first i identifiers of the body, zeros behind.
 use Prim.Native.Nat.{ℕ, _≤_, _-_, _*_}
 use mathlib.Core.List.{List}
 use mathlib.Core.Path.{_≡_, refl, ap, _∙_}
 use native.Mathlib.Omega.{arith}
 use lib.ListN.{length, set}
-use Rattle.reader.specs.Answers.Laws.{array-next, array-whole}
+use Rattle.decoding.specs.Decoding.Laws.{array-next, array-whole}
 use Rattle.lists.specs.Lists.Laws.{length-pad}
 use Rattle.frame.specs.Reading.Laws.{length-identifiers}
 use Rattle.lists.specs.Lists.{padTo}
 use Rattle.limits.specs.Limits.{mostBases}
-use Rattle.reader.proofs.identifiers.Statement.{statement}
+use Rattle.decoding.proofs.identifiers.Statement.{statement}
 use Rattle.frame.specs.Reading as spec
-use Rattle.reader.proofs.identifiers.Tie as tie
+use Rattle.decoding.proofs.identifiers.Tie as tie
 
 abbrev Inv-loop : tie.InvT-loop
 Inv-loop body ids₀ i₀ ids i = (i ≤ mostBases) × ((4 * i ≤ length body) × (ids ≡ padTo mostBases (spec.identifiers i body)))
