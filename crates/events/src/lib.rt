@@ -1,5 +1,6 @@
 // A carry and a forgery, each on the nodes that it names. What is turned down, by 16 to 18 or by the base's call, leaves the base
 // that it would reach as it was. A start is the call alone (crate `node_calls`). specs/Represents.antt has what these do to the net.
+use decoding::identifiers;
 use limits::IDENTIFIER_BYTES;
 use limits::refusal;
 use net::Faulty;
@@ -13,7 +14,6 @@ use node_calls::hear_frame;
 use node_calls::hear_message;
 use numbering::link_to;
 use reader::Reading;
-use reader::identifiers;
 use reader::read;
 ghost use mathlib.Core.Path.{_≡_};
 ghost use Rattle.net.specs.Abstraction.{pairsOf};

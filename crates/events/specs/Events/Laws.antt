@@ -27,7 +27,8 @@ use Rattle.lists.specs.Choice.Laws.{
 }
 use Rattle.frame.specs.Reading.{burstRefusal, readRefusal}
 use Rattle.reader.specs.declared.Reading.the-variants.{Message, Refused}
-use Rattle.reader.specs.Answers.{readingOf, idArray}
+use Rattle.decoding.specs.Decoding.{idArray}
+use Rattle.reader.specs.Answers.{readingOf}
 use Rattle.reader.specs.Answers.Laws.{reading-refused}
 use Rattle.reader.specs.Answers.Place.{body-there}
 use Rattle.protocol.specs.declared.Base.{Base}
