@@ -1,7 +1,5 @@
 // One base's agreement engine: a start, an arrival on a link, a message that was read. A record goes in by value, and what is to be
 // changed in it comes back beside the answer; frames go into the output that is lent, one after another.
-pub mod arrival;
 pub mod changes;
 mod settle;
-pub mod start;
 mod step;

@@ -7,7 +7,7 @@ use c_answers::leader_numbers;
 use c_answers::outcome_numbers;
 use c_answers::read_numbers;
 use c_answers::written_numbers;
-use limits::MOST_BASES;
+use change::changed;
 use protocol::Base;
 use soundness::idle::Made;
 ghost use mathlib.Core.Path.{_≡_};
@@ -16,7 +16,7 @@ ghost use Rattle.writer.specs.Writing.{writtenOf, writeOutput};
 ghost use Rattle.decoding.specs.Decoding.{idArray};
 ghost use Rattle.reader.specs.Answers.{readingOf, stretch};
 ghost use Rattle.protocol.specs.Steps.{arrival, start, leaderAnswer};
-ghost use Rattle.lent_calls.specs.InPlace.{InPlace, answerOf};
+ghost use Rattle.change.specs.Change.{DoesAs};
 ghost use Rattle.soundness.specs.Made.{madeOf};
 ghost use Rattle.schedule.specs.Report.{replayLength, replayOutput};
 ghost use Rattle.roster_c.specs.Version.{version};
@@ -36,10 +36,12 @@ pub extern "C" fn roster_idle(n: usize, t: usize, own: u32) -> Made
 // Starts an idle base. Turned down by 1 to 4 and 6.
 #[no_mangle]
 pub extern "C" fn roster_start(base: &mut Base, out: &mut [u8]) -> CallAnswer
-    ensures { λ r. ⌜ InPlace (λ d. outcomeNumbers (answerOf d)) (start (now (base .entry)) (length (now (out .entry)))) r
+    ensures { λ r. ⌜ DoesAs outcomeNumbers (start (now (base .entry)) (length (now (out .entry)))) r
         (now (base .exit)) (now (out .entry)) (now (out .exit)) ⌝ }
 {
-    outcome_numbers(lent_calls::start(base, out))
+    let started = engine::changes::start(*base, out);
+    *base = changed(*base, started);
+    outcome_numbers(started.outcome)
 }
 
 // A burst arrives on a link, 1 to n - 1. Turned down by 1 to 12.
@@ -50,11 +52,12 @@ pub extern "C" fn roster_arrive(
     burst: &[u8],
     out: &mut [u8],
 ) -> CallAnswer
-    ensures { λ r. ⌜ InPlace (λ d. outcomeNumbers (answerOf d))
-        (arrival (now (base .entry)) link (now (burst .entry)) (length (now (out .entry)))) r
+    ensures { λ r. ⌜ DoesAs outcomeNumbers (arrival (now (base .entry)) link (now (burst .entry)) (length (now (out .entry)))) r
         (now (base .exit)) (now (out .entry)) (now (out .exit)) ⌝ }
 {
-    outcome_numbers(lent_calls::arrive(base, link, burst, out))
+    let arrived = engine::changes::arrive(*base, link, burst, out);
+    *base = changed(*base, arrived);
+    outcome_numbers(arrived.outcome)
 }
 
 // The leader that a stopped base names. Turned down by 1 to 4.
@@ -62,7 +65,7 @@ pub extern "C" fn roster_arrive(
 pub extern "C" fn roster_leader(base: &mut Base) -> LeaderAnswer
     ensures { λ r. ⌜ (r ≡ leaderNumbers (leaderAnswer (now (base .entry)))) × (now (base .exit) ≡ now (base .entry)) ⌝ }
 {
-    leader_numbers(lent_calls::leader(base))
+    leader_numbers(leader::leader(*base))
 }
 
 // The message of a burst. Turned down by 1 and 7 to 12.

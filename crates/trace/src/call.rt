@@ -6,8 +6,9 @@ use crate::say;
 use c_answers::CallAnswer;
 use c_answers::outcome_numbers;
 use c_answers::read_numbers;
-use engine::arrival::arrive;
-use engine::start::start;
+use change::changed;
+use engine::changes::arrive;
+use engine::changes::start;
 use leader::leader_of;
 use limits::OUTPUT_ROOM;
 use node::Node;
@@ -92,9 +93,9 @@ pub fn start_call(b: u8, node: Node) {
         return say::base(b, b" has started: discarded\n");
     }
     let mut frames = [0u8; OUTPUT_ROOM];
-    let step = start(base, &mut frames);
-    let outcome = step.outcome;
-    let after = step.base;
+    let change = start(base, &mut frames);
+    let outcome = change.outcome;
+    let after = changed(base, change);
     say::base(b, b" starts\n");
     broadcasts(
         b,
@@ -123,9 +124,9 @@ fn heard(b: u8, base: Base, arrival: Arrival, accepted: bool, burst: &[u8]) {
 pub fn arrival_call(b: u8, node: Node, arrival: Arrival, burst: &[u8]) {
     let base = node.base;
     let mut frames = [0u8; OUTPUT_ROOM];
-    let step = arrive(base, arrival.link, burst, &mut frames);
-    let outcome = step.outcome;
-    let after = step.base;
+    let change = arrive(base, arrival.link, burst, &mut frames);
+    let outcome = change.outcome;
+    let after = changed(base, change);
     let answer = outcome_numbers(outcome);
     if answer.outcome == 0 {
         return refused(b, arrival, burst.len(), answer.refusal);

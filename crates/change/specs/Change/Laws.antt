@@ -11,7 +11,7 @@ use Rattle.protocol.specs.declared.Outcome.{Outcome}
 use Rattle.protocol.specs.Links.{noLink}
 use Rattle.protocol.specs.Steps.{Done, refuses, discards, withState, encodeAll, outputOf}
 use Rattle.change.specs.declared.Change.{Change}
-use Rattle.change.specs.Change.{changedBase, ChangeOf, Does}
+use Rattle.change.specs.Change.{changedBase, EndsAs, DoesAs}
 
 -- ---- what the code makes
 -- no place that there is
@@ -42,14 +42,18 @@ changed-state b state o = ap
     (set-getD (b .links) 0 noLink)
 
 -- ---- a call that does what another definition says
-pub does-as : {b : Base} {d k : Done} {c : Change} {output after : List ℕ} → d ≡ k → Does b k c output after → Does b d c output after
-does-as {b} {d} {k} {c} {output} {after} e p = subst (λ (x : Done). Does b x c output after) (sym e) p
+module _ {R : Type 0} {form : Outcome → R} {answer : R} {left : Base} where
+  pub does-as : {d k : Done} {output after : List ℕ} → d ≡ k
+      → DoesAs form k answer left output after → DoesAs form d answer left output after
+  does-as {output = output} {after = after} e p = subst (λ (x : Done). DoesAs form x answer left output after) (sym e) p
 
--- ---- a call that broadcasts nothing
-pub refuses-does : {b : Base} (r : ℕ) {c : Change} (output : List ℕ) → ChangeOf b (refuses b r) c → Does b (refuses b r) c output output
-unfolding outputOf refuses encodeAll
-refuses-does r output p = record { changes = p; written = sym (over-nothing output) }
+  -- ---- a call that broadcasts nothing
+  pub refuses-does : (b : Base) (r : ℕ) (output : List ℕ) → EndsAs form (refuses b r) answer left
+      → DoesAs form (refuses b r) answer left output output
+  unfolding outputOf refuses encodeAll
+  refuses-does b r output p = record { changes = p; written = sym (over-nothing output) }
 
-pub discards-does : {b : Base} (d : Base) {c : Change} (output : List ℕ) → ChangeOf b (discards d) c → Does b (discards d) c output output
-unfolding outputOf discards encodeAll
-discards-does d output p = record { changes = p; written = sym (over-nothing output) }
+  pub discards-does : (d : Base) (output : List ℕ) → EndsAs form (discards d) answer left
+      → DoesAs form (discards d) answer left output output
+  unfolding outputOf discards encodeAll
+  discards-does d output p = record { changes = p; written = sym (over-nothing output) }

@@ -22,8 +22,7 @@ use Rattle.protocol.specs.Net.{callRefusal}
 use Rattle.protocol.specs.Steps.{Answer, accepted, discarded, refused, Done, encodeAll, lengths, outcomeOf, outputOf}
 use Rattle.protocol.specs.Steps.Answers.{Unchanged}
 use Rattle.protocol.specs.Steps.Output.{lengths-sum}
-use Rattle.change.specs.declared.Change.{Change}
-use Rattle.change.specs.Change.{changedBase, Does}
+use Rattle.change.specs.Change.{DoesAs}
 use Rattle.node.specs.declared.Frame.{Frame}
 use Rattle.node.specs.declared.Node.{Node}
 use Rattle.node_calls.specs.declared.Told.{Told}
@@ -145,11 +144,11 @@ module _ (v : Node) (d : Done) (T : Tidy (v .base) d) (out : List ℕ) (wide : l
   settled-answer discarded e = ap (λ (w : Node). record { refusal = 0; node = w }) (three-joined v (d .base) (d .says) out (T .brief .few))
   settled-answer (refused r) e = ap (λ (w : Node). record { refusal = r; node = w }) (sym (after-unchanged v d (T .down r e)))
 
-  pub call-fits : {c : Change} {written : List ℕ} → Does (v .base) d c out written → Fitting (c .outcome) (length written)
+  pub call-fits : {o : Outcome} {left : Base} {written : List ℕ} → DoesAs (λ x. x) d o left out written → Fitting o (length written)
   call-fits D = rw (D .changes .outcome, D .written) (fitting-answer (d .answer))
 
-  pub call-told : {c : Change} {next : Base} {written : List ℕ} {t : Told}
-      → Does (v .base) d c out written → next ≡ changedBase (v .base) c → t ≡ settledOf v next (c .outcome) written → t ≡ told v d
+  pub call-told : {o : Outcome} {left next : Base} {written : List ℕ} {t : Told}
+      → DoesAs (λ x. x) d o left out written → next ≡ left → t ≡ settledOf v next o written → t ≡ told v d
   unfolding told
   call-told D e t = t ∙ rw (e, D .changes .base, D .changes .outcome, D .written) (settled-answer (d .answer) refl)
 

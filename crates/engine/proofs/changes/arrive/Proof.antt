@@ -46,7 +46,7 @@ returns c =
     does-as (burst-down (a .base) (a .link) _ _ _ (sym (c .before .before .before .before .before .before .read .ensures)
     ∙ c .before .before .before .before .number .given .1) _
     (c .before .first-of .ensures ∙ ap (λ (k : ℕ). first k (c .before .before .before .before .number .given .0 .0))
-    (c .before .before .place-refusal .ensures))) (refuses-does _ _ (c .refused .ensures))
+    (c .before .before .place-refusal .ensures))) (refuses-does _ _ _ (c .refused .ensures))
 
 same-length : tie.Need-same-length
 same-length c = search needs

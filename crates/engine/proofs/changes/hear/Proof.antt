@@ -19,7 +19,7 @@ refused-requires c κs = search needs
 returns : tie.Need-returns
 returns c = let a = c .before .before .before .before .args in
     does-as (place-down (a .base) (a .link) (a .kind) (a .ids) _ _ (c .before .before .place-refusal .ensures) (c .before .if1 .taken))
-    (refuses-does _ _ (c .refused .ensures))
+    (refuses-does _ _ _ (c .refused .ensures))
 
 message-refusal-requires : tie.Need-message-refusal-requires
 message-refusal-requires c κs = let b = c .before .before .before .args .base in
@@ -32,7 +32,7 @@ returns-2 : tie.Need-returns-2
 returns-2 c = let a = c .before .before .before .before .before .before .args in
     does-as (message-down (a .base) (a .link) (a .kind) (a .ids) _ _ (sym (c .before .before .before .before .place-refusal .ensures)
     ∙ c .before .before .before .if1 .left) (c .before .before .message-refusal .ensures) (c .before .if2 .taken))
-    (refuses-does _ _ (c .refused2 .ensures))
+    (refuses-does _ _ _ (c .refused2 .ensures))
 
 sub-step : tie.Need-sub-step
 sub-step c = place-passed (c .before .before .before .before .before .args .base)

@@ -17,7 +17,7 @@ refused-requires c κs = search needs
 
 returns : tie.Need-returns
 returns c = does-as (start-down (c .before .before .before .before .args .base)
-    _ _ (c .before .before .start-refusal .ensures) (c .before .if1 .taken)) (refuses-does _ _ (c .refused .ensures))
+    _ _ (c .before .before .start-refusal .ensures) (c .before .if1 .taken)) (refuses-does _ _ _ (c .refused .ensures))
 
 discarded-requires : tie.Need-discarded-requires
 discarded-requires c κs = search needs

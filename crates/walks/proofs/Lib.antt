@@ -1,4 +1,3 @@
 pub mod Locals
 pub mod Plain
 pub mod Calls
-pub mod Types
