@@ -14,6 +14,7 @@ use libc::STDOUT_FILENO;
 use limits::LONGEST_SCHEDULE;
 use output::parts::part;
 use replay::REPORT_ROOM;
+use trace::waits::itemise;
 
 // Of a schedule that is too long, line 1 is named.
 fn shown(schedule: &[u8]) -> Walk {
@@ -23,13 +24,13 @@ fn shown(schedule: &[u8]) -> Walk {
     event::steps(schedule, walk::header(schedule))
 }
 
-// The lines, and why one is refused.
+// The lines, and what waits behind them or why one is refused.
 fn show(schedule: &[u8]) {
     let walk = shown(schedule);
-    if walk.refusal == 0 {
-        return;
-    }
     let net = walk.net;
+    if walk.refusal == 0 {
+        return itemise(net);
+    }
     let faulty = net.faulty;
     explain(
         schedule,

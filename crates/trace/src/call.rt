@@ -1,6 +1,8 @@
 // What a start or an arrival did.
 use crate::figures;
+use crate::frames::Caller;
 use crate::frames::broadcasts;
+use crate::links::link_at;
 use crate::reason;
 use crate::say;
 use c_answers::CallAnswer;
@@ -9,10 +11,15 @@ use c_answers::read_numbers;
 use change::changed;
 use engine::changes::arrive;
 use engine::changes::start;
+use frame::kind::CORRECT_FINAL;
+use frame::kind::VERIFY_FINAL;
 use leader::leader_of;
+use limits::MOST_BASES;
 use limits::OUTPUT_ROOM;
 use node::Node;
 use protocol::Base;
+use protocol::IDLE;
+use protocol::PRIME;
 
 // On which link a burst arrives, from which base or as if from it.
 pub struct Arrival {
@@ -22,33 +29,37 @@ pub struct Arrival {
 }
 
 // The list and the leader of a base that stops.
-fn stop(b: u8, base: Base) {
-    let list = base.final_list;
-    if base.state == 2 {
+fn stop(b: u8, n: u8, state: u8, list: [u32; MOST_BASES]) {
+    if state == PRIME {
         say::base(b, b" stops: prime");
     } else {
         say::base(b, b" stops: secondary");
     }
-    say::identifiers(list, base.n as usize);
+    say::identifiers(list, n as usize);
     output::text(b" leader ");
     output::number(leader_of(&list) as usize);
     output::text(b"\n");
 }
 
-// The check that follows an accepted message, and the stop that may follow the check.
-fn checked(b: u8, after: Base, made: usize, answer: CallAnswer, burst: &[u8], frames: &[u8]) {
+// The check that follows an accepted message.
+fn checked(b: u8, after: Base, burst: &[u8]) {
     let taken = read_numbers(after.n as usize, burst);
     let list = taken.ids;
-    if taken.kind < 3 {
+    if taken.kind < CORRECT_FINAL {
         figures::prime(b, after);
     } else {
         figures::secondary(b, after, list);
     }
-    if after.state < 2 {
+}
+
+// The stop that may follow the check.
+fn stopped(caller: Caller, after: Base, answer: CallAnswer, frames: &[u8]) {
+    if !caller.stops {
         return;
     }
-    broadcasts(b, after, made, answer, true, frames);
-    stop(b, after);
+    let list = after.final_list;
+    broadcasts(caller, answer, true, frames);
+    stop(caller.b, after.n, after.state, list);
 }
 
 fn on_link(arrival: Arrival, words: &[u8]) {
@@ -86,10 +97,20 @@ fn discards(b: u8, base: Base, arrival: Arrival, burst: &[u8]) {
     reason::discarded(base, arrival.link, taken.kind, ids[0]);
 }
 
+// Who makes a call's broadcasts, as it stands behind the call.
+fn caller_of(b: u8, made: usize, after: Base) -> Caller {
+    Caller {
+        b,
+        n: after.n,
+        made,
+        stops: 2 <= after.state,
+    }
+}
+
 // A start at base b.
 pub fn start_call(b: u8, node: Node) {
     let base = node.base;
-    if base.state != 0 {
+    if base.state != IDLE {
         return say::base(b, b" has started: discarded\n");
     }
     let mut frames = [0u8; OUTPUT_ROOM];
@@ -98,23 +119,33 @@ pub fn start_call(b: u8, node: Node) {
     let after = changed(base, change);
     say::base(b, b" starts\n");
     broadcasts(
-        b,
-        after,
-        node.count,
+        caller_of(b, node.count, after),
         outcome_numbers(outcome),
         false,
         &frames,
     );
 }
 
+// A Correct-Final takes the place of a Verify-Final on its link, which held a message of that kind.
+fn accepts(b: u8, n: u8, held: u16, arrival: Arrival, burst: &[u8]) {
+    hears(b, n, burst);
+    on_link(arrival, b": accepted");
+    if held == VERIFY_FINAL as u16 {
+        if read_numbers(n as usize, burst).kind == CORRECT_FINAL {
+            output::text(b", in place of the link's Verify-Final");
+        }
+    }
+    output::text(b"\n");
+}
+
 // The message that was not refused.
 fn heard(b: u8, base: Base, arrival: Arrival, accepted: bool, burst: &[u8]) {
-    if base.state == 0 {
+    if base.state == IDLE {
         say::base(b, b" starts\n");
     }
+    let held = link_at(base, arrival.link).held;
     if accepted {
-        hears(b, base.n, burst);
-        on_link(arrival, b": accepted\n");
+        accepts(b, base.n, held, arrival, burst);
     } else {
         discards(b, base, arrival, burst);
     }
@@ -132,8 +163,10 @@ pub fn arrival_call(b: u8, node: Node, arrival: Arrival, burst: &[u8]) {
         return refused(b, arrival, burst.len(), answer.refusal);
     }
     heard(b, base, arrival, answer.outcome == 1, burst);
-    broadcasts(b, after, node.count, answer, false, &frames);
+    let caller = caller_of(b, node.count, after);
+    broadcasts(caller, answer, false, &frames);
     if answer.outcome == 1 {
-        checked(b, after, node.count, answer, burst, &frames);
+        checked(b, after, burst);
+        stopped(caller, after, answer, &frames);
     }
 }

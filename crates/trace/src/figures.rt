@@ -42,7 +42,7 @@ pub(crate) fn prime(b: u8, base: Base) {
     output::number(base.t as usize);
     verdict(base.state);
     if 0 < suspected {
-        suspect_pairs(base);
+        suspect_pairs(b, base);
     }
 }
 

@@ -3,7 +3,14 @@ use crate::say;
 use c_answers::CallAnswer;
 use output::parts::part;
 use output::parts::plus;
-use protocol::Base;
+
+// Base b of n, which had made so many broadcasts, and whether it stops.
+pub(crate) struct Caller {
+    pub b: u8,
+    pub n: u8,
+    pub made: usize,
+    pub stops: bool,
+}
 
 // A broadcast of base b, by its number.
 fn broadcast(b: u8, n: u8, number: usize, frame: &[u8]) {
@@ -30,21 +37,16 @@ fn shown(length: usize, next: usize, stops: bool, last: bool) -> usize {
     0
 }
 
-// The frames of a call, before its check or after it, of a base that had made so many broadcasts.
-pub(crate) fn broadcasts(
-    b: u8,
-    base: Base,
-    made: usize,
-    answer: CallAnswer,
-    last: bool,
-    frames: &[u8],
-) {
-    let stops = 2 <= base.state;
-    let first = shown(answer.first, answer.second, stops, last);
-    broadcast(b, base.n, plus(made, 1), part(frames, 0, first));
-    let second = shown(answer.second, answer.third, stops, last);
-    broadcast(b, base.n, plus(made, 2), part(frames, answer.first, second));
-    let third = shown(answer.third, 0, stops, last);
+// The frames of a call, before its check or after it.
+pub(crate) fn broadcasts(caller: Caller, answer: CallAnswer, last: bool, frames: &[u8]) {
+    let b = caller.b;
+    let n = caller.n;
+    let made = caller.made;
+    let first = shown(answer.first, answer.second, caller.stops, last);
+    broadcast(b, n, plus(made, 1), part(frames, 0, first));
+    let second = shown(answer.second, answer.third, caller.stops, last);
+    broadcast(b, n, plus(made, 2), part(frames, answer.first, second));
+    let third = shown(answer.third, 0, caller.stops, last);
     let place = plus(answer.first, answer.second);
-    broadcast(b, base.n, plus(made, 3), part(frames, place, third));
+    broadcast(b, n, plus(made, 3), part(frames, place, third));
 }

@@ -1,8 +1,9 @@
 // The suspect pairs by their identifiers, and what makes each suspect: a link that lacks a Verify of the other.
+use crate::links::far_end;
+use crate::links::link_at;
 use certified::link_count;
 use held::has_announce;
 use held::holds_verify;
-use limits::MOST_LINKS;
 use output::number;
 use output::parts::plus;
 use output::text;
@@ -12,14 +13,6 @@ use protocol::Link;
 // Pairs that are named: all of a net of four bases.
 const NAMED: usize = 6;
 
-// Link number i + 1.
-fn link_at(base: Base, i: usize) -> Link {
-    if MOST_LINKS <= i {
-        return base.links[0];
-    }
-    base.links[i]
-}
-
 // Whether a link that has an Announce lacks a Verify.
 fn lacks(link: Link, g: u32) -> bool {
     if has_announce(link) {
@@ -28,10 +21,12 @@ fn lacks(link: Link, g: u32) -> bool {
     false
 }
 
-// `link 1 lacks Verify 120`
-fn lacking(i: usize, g: u32) {
+// `link 1 from base 2 lacks Verify 120`
+fn lacking(b: u8, i: usize, g: u32) {
     text(b"link ");
-    number(plus(i, 1));
+    number(i);
+    text(b" from base ");
+    number(far_end(b, i));
     text(b" lacks Verify ");
     number(g as usize);
 }
@@ -48,29 +43,29 @@ fn pair(named: usize, g: u32, h: u32) {
 }
 
 // The own identifier and that of a link: only the other's link is looked at. Answers how many pairs there are by now.
-fn own_pair(base: Base, i: usize, named: usize) -> usize {
+fn own_pair(b: u8, base: Base, i: usize, named: usize) -> usize {
     let link = link_at(base, i);
     if !lacks(link, base.own) {
         return named;
     }
     if named < NAMED {
         pair(named, base.own, link.announce);
-        lacking(i, base.own);
+        lacking(b, i, base.own);
         text(b")");
     }
     plus(named, 1)
 }
 
-fn told_pair(i: usize, one: Link, j: usize, other: Link, named: usize) {
+fn told_pair(b: u8, i: usize, one: Link, j: usize, other: Link, named: usize) {
     pair(named, one.announce, other.announce);
     if lacks(one, other.announce) {
-        lacking(i, other.announce);
+        lacking(b, i, other.announce);
         if lacks(other, one.announce) {
             text(b", ");
         }
     }
     if lacks(other, one.announce) {
-        lacking(j, one.announce);
+        lacking(b, j, one.announce);
     }
     text(b")");
 }
@@ -89,44 +84,44 @@ fn is_suspect(one: Link, other: Link) -> bool {
 }
 
 // The identifiers of two links.
-fn link_pair(base: Base, i: usize, j: usize, named: usize) -> usize {
+fn link_pair(b: u8, base: Base, i: usize, j: usize, named: usize) -> usize {
     let one = link_at(base, i);
     let other = link_at(base, j);
     if !is_suspect(one, other) {
         return named;
     }
     if named < NAMED {
-        told_pair(i, one, j, other, named);
+        told_pair(b, i, one, j, other, named);
     }
     plus(named, 1)
 }
 
 // The pairs of a link with the own identifier and with the links before it.
-fn pairs_of(base: Base, i: usize, before: usize) -> usize {
-    let mut named = own_pair(base, i, before);
-    let mut j: usize = 0;
+fn pairs_of(b: u8, base: Base, i: usize, before: usize) -> usize {
+    let mut named = own_pair(b, base, i, before);
+    let mut j: usize = 1;
     while j < i {
-        named = link_pair(base, j, i, named);
+        named = link_pair(b, base, j, i, named);
         j += 1;
     }
     named
 }
 
-fn pairs(base: Base) -> usize {
+fn pairs(b: u8, base: Base) -> usize {
     let k = link_count(base.n);
     let mut named: usize = 0;
     let mut i: usize = 0;
     while i < k {
-        named = pairs_of(base, i, named);
         i += 1;
+        named = pairs_of(b, base, i, named);
     }
     named
 }
 
 // Those of a base that has some.
-pub(crate) fn suspect_pairs(base: Base) {
+pub(crate) fn suspect_pairs(b: u8, base: Base) {
     text(b"  suspect: ");
-    let named = pairs(base);
+    let named = pairs(b, base);
     if NAMED < named {
         text(b"; and ");
         number(named - NAMED);

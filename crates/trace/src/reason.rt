@@ -1,9 +1,11 @@
 // Why a message is discarded.
-use crate::say;
+use crate::links::link_at;
 use certified::certifies;
+use frame::kind::ANNOUNCE;
+use frame::kind::CORRECT_FINAL;
+use frame::kind::VERIFY;
 use held::has_announce;
 use held::holds_verify;
-use limits::MOST_LINKS;
 use protocol::Base;
 use protocol::Link;
 
@@ -29,17 +31,11 @@ pub(crate) fn discarded(base: Base, link: usize, kind: u8, g: u32) {
     if 2 <= base.state {
         return output::text(b"the base has stopped\n");
     }
-    if link < 1 {
-        return;
-    }
-    if MOST_LINKS < link {
-        return;
-    }
-    let held = base.links[link - 1];
+    let held = link_at(base, link);
     match kind {
-        1 => announce(base, held, g),
-        2 => verify(held, g),
-        3 => output::text(b"the link holds a Correct-Final\n"),
+        ANNOUNCE => announce(base, held, g),
+        VERIFY => verify(held, g),
+        CORRECT_FINAL => output::text(b"the link holds a Correct-Final\n"),
         _ => output::text(b"the link holds a vector message\n"),
     }
 }

@@ -1,5 +1,8 @@
 // Pieces of the trace, written to standard output as they come.
 use c_answers::read_numbers;
+use frame::kind::ANNOUNCE;
+use frame::kind::CORRECT_FINAL;
+use frame::kind::VERIFY;
 use limits::MOST_BASES;
 use output::number;
 use output::text;
@@ -39,9 +42,9 @@ pub(crate) fn identifiers(ids: [u32; MOST_BASES], count: usize) {
 
 fn kind_word(kind: u8) {
     match kind {
-        1 => text(b"Announce"),
-        2 => text(b"Verify"),
-        3 => text(b"Correct-Final"),
+        ANNOUNCE => text(b"Announce"),
+        VERIFY => text(b"Verify"),
+        CORRECT_FINAL => text(b"Correct-Final"),
         _ => text(b"Verify-Final"),
     }
 }

@@ -5,10 +5,10 @@ use Rattle.trace.proofs.pairs.pairs.Statement.{statement}
 use Rattle.trace.proofs.pairs.pairs.Tie as tie
 
 abbrev Inv-loop : tie.InvT-loop
-Inv-loop base k named₀ i₀ named i = i ≤ k
+Inv-loop b base k named₀ i₀ named i = i ≤ k
 
 abbrev μ-loop : tie.MeasureT-loop
-μ-loop base k named₀ i₀ named i = k - i
+μ-loop b base k named₀ i₀ named i = k - i
 
 link-count-requires : tie.Need-link-count-requires Inv-loop μ-loop
 link-count-requires c κs = search needs
@@ -16,11 +16,11 @@ link-count-requires c κs = search needs
 loop-holds : tie.Need-loop-holds Inv-loop μ-loop
 loop-holds c = search needs
 
-pairs-of-requires : tie.Need-pairs-of-requires Inv-loop μ-loop
-pairs-of-requires c κs = search needs
-
 add-i : tie.Need-add-i Inv-loop μ-loop
 add-i c = search needs
+
+pairs-of-requires : tie.Need-pairs-of-requires Inv-loop μ-loop
+pairs-of-requires c κs = search needs
 
 loop-less : tie.Need-loop-less Inv-loop μ-loop
 loop-less c = search needs
@@ -39,8 +39,8 @@ pairs-spec =
     μ-loop
     link-count-requires
     loop-holds
-    pairs-of-requires
     add-i
+    pairs-of-requires
     loop-less
     loop-again
     returns)

@@ -1,14 +1,14 @@
 -- The links before i are counted up to i.
-use Prim.Native.Nat.{_≤_, _-_}
+use Prim.Native.Nat.{_≤_, _+_, _-_}
 use borrow.Author.Needs.{needs}
 use Rattle.trace.proofs.pairs.pairs_of.Statement.{statement}
 use Rattle.trace.proofs.pairs.pairs_of.Tie as tie
 
 abbrev Inv-loop : tie.InvT-loop
-Inv-loop base i before named₀ j₀ named j = j ≤ i
+Inv-loop b base i before named₀ j₀ named j = j ≤ i + 1
 
 abbrev μ-loop : tie.MeasureT-loop
-μ-loop base i before named₀ j₀ named j = i - j
+μ-loop b base i before named₀ j₀ named j = i - j
 
 own-pair-requires : tie.Need-own-pair-requires Inv-loop μ-loop
 own-pair-requires c κs = search needs
