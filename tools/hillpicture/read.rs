@@ -149,6 +149,8 @@ impl Reader {
                 self.report.push(state_of(state, self.ids.len())?);
                 return in_turn.then_some(());
             }
+            // Each message that waits; the report has their number.
+            ["waiting", "from", "base", ..] if self.has_ids() && self.report.is_empty() => {}
             ["waiting", waiting] if self.has_ids() && self.report.len() == self.ids.len() => {
                 self.end = Some(End::Report { bases: std::mem::take(&mut self.report), waiting: waiting.parse().ok()? });
             }

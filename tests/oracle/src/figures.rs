@@ -24,21 +24,21 @@ pub fn told(at: usize, base: &Base, message: &Message) -> Vec<String> {
             let (found, n, t) = (base.prime_figures(), base.n, base.t);
             let sum = format!("sum {}, {} needed", found.sum, n * n - 2 * t);
             let line = format!("certified {}, {n} needed; {sum}; suspects {}, at most {t}; {verdict}", found.certified, found.suspects);
-            std::iter::once(format!("  base {at}, prime check: {line}")).chain(suspects(base)).collect()
+            std::iter::once(format!("  base {at}, prime check: {line}")).chain(suspects(at, base)).collect()
         }
     }
 }
 
-/// `  suspect: 310 and 120 (link 1 lacks Verify 120); ..`
-fn suspects(base: &Base) -> Option<String> {
+/// `  suspect: 310 and 120 (link 1 from base 1 lacks Verify 120); ..`
+fn suspects(at: usize, base: &Base) -> Option<String> {
     let mut pairs = Vec::new();
     for (i, link) in base.links.iter().enumerate() {
         let Some(id) = link.announce else { continue };
-        if let Some(lacking) = lacks(base, i, base.own) {
+        if let Some(lacking) = lacks(at, base, i, base.own) {
             pairs.push(format!("{} and {id} ({lacking})", base.own));
         }
         for (j, other) in base.links[..i].iter().enumerate().filter_map(|(j, before)| Some((j, before.announce?))) {
-            let lacking: Vec<String> = lacks(base, j, id).into_iter().chain(lacks(base, i, other)).collect();
+            let lacking: Vec<String> = lacks(at, base, j, id).into_iter().chain(lacks(at, base, i, other)).collect();
             if !lacking.is_empty() {
                 pairs.push(format!("{other} and {id} ({})", lacking.join(", ")));
             }
@@ -52,6 +52,8 @@ fn suspects(base: &Base) -> Option<String> {
     (!pairs.is_empty()).then(|| format!("  suspect: {}", pairs.join("; ")))
 }
 
-fn lacks(base: &Base, place: usize, id: u32) -> Option<String> {
-    (!base.links[place].verifies.contains(&id)).then(|| format!("link {} lacks Verify {id}", place + 1))
+fn lacks(at: usize, base: &Base, place: usize, id: u32) -> Option<String> {
+    let link = place + 1;
+    let from = if link < at { link } else { link + 1 };
+    (!base.links[place].verifies.contains(&id)).then(|| format!("link {link} from base {from} lacks Verify {id}"))
 }

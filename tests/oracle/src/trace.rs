@@ -2,12 +2,13 @@
 //! The reasons are the model's own, put into the trace's words here; `causes` works out why a line is refused, `figures` what a check
 //! counts.
 
-use crate::base::Base;
+use crate::base::{Base, Vote};
 use crate::causes;
 use crate::faults::Fault;
 use crate::figures;
 use crate::generate::{histories, schedules};
 use crate::limits::{link_to, LONGEST_SCHEDULE};
+use crate::message::Message;
 use crate::model::Model;
 use crate::net::{Event, History, Net};
 use crate::reader::{read, Number};
@@ -25,6 +26,8 @@ use std::process::{Command, Stdio};
 #[derive(Clone, Copy, Debug, PartialEq, Eq, PartialOrd, Ord)]
 enum Outcome {
     Accepted,
+    /// A Correct-Final, in place of the link's Verify-Final.
+    Replaced,
     Discarded(Discard),
     Refused(Number),
 }
@@ -111,7 +114,7 @@ impl Compared {
 
     fn print(&self) -> bool {
         let every = REASONS.iter().map(|&(reason, _)| Outcome::Discarded(reason)).chain((7..=12).map(Outcome::Refused));
-        let every: Vec<Outcome> = every.chain([Outcome::Accepted, Outcome::Discarded(Discard::HasStarted)]).collect();
+        let every: Vec<Outcome> = every.chain([Outcome::Accepted, Outcome::Replaced, Outcome::Discarded(Discard::HasStarted)]).collect();
         for outcome in &every {
             println!("  {:>10}  {outcome:?}", self.counts.get(outcome).unwrap_or(&0));
         }
@@ -122,13 +125,26 @@ impl Compared {
     }
 }
 
-/// The report's lines; before a refusal's the refused line, its number, and why it is refused.
+/// The report's lines; before them what waits, by its numbers; before a refusal's the refused line, its number, and why it is refused.
 fn ending(schedule: &[u8]) -> Vec<String> {
-    let report = replay::report(schedule, Fault::None).lines().map(str::to_string).collect();
-    let Err(refused) = replay::replay(schedule, Fault::None) else { return report };
+    let report = replay::report(schedule, Fault::None);
+    let report = report.lines().map(str::to_string);
+    let refused = match replay::replay(schedule, Fault::None) {
+        Ok(net) => return waits(&net).into_iter().chain(report).collect(),
+        Err(refused) => refused,
+    };
     let (line, causes) = causes::told(schedule, refused);
     let number = format!("{REFUSED_BY}{}, ", refused.number);
     [line, number].into_iter().chain(causes.iter().map(|cause| format!("  {cause}"))).chain(report).collect()
+}
+
+/// `waiting from base 1 to base 2: 3 4`
+fn waits(net: &Net) -> Vec<String> {
+    let mut pairs: BTreeMap<(usize, usize), Vec<String>> = BTreeMap::new();
+    for (from, to, k) in net.outstanding() {
+        pairs.entry((from, to)).or_default().push(k.to_string());
+    }
+    pairs.iter().map(|((from, to), numbers)| format!("waiting from base {from} to base {to}: {}", numbers.join(" "))).collect()
 }
 
 const REFUSED_BY: &str = "  refused by ";
@@ -163,12 +179,19 @@ fn outcome(net: &Net, event: &Event) -> (Outcome, Vec<String>) {
         Event::Carry { from, k, .. } => (*from, &net.logs[from - 1][k - 1]),
         Event::Forge { from, bytes, .. } => (*from, bytes),
     };
-    match read(base.n, burst, Fault::None) {
-        Ok(frame) => match base.arrive(link_to(at, from) - 1, frame.message.clone()).discarded {
-            Some(reason) => (Outcome::Discarded(reason), Vec::new()),
-            None => (Outcome::Accepted, figures::told(at, &base, &frame.message)),
-        },
-        Err(number) => refused(number),
+    let frame = match read(base.n, burst, Fault::None) {
+        Ok(frame) => frame,
+        Err(number) => return refused(number),
+    };
+    let link = link_to(at, from) - 1;
+    let held = base.links[link].vector.clone();
+    let accepted = match (&frame.message, held) {
+        (Message::CorrectFinal(_), Some((Vote::VerifyFinal, _))) => Outcome::Replaced,
+        _ => Outcome::Accepted,
+    };
+    match base.arrive(link, frame.message.clone()).discarded {
+        Some(reason) => (Outcome::Discarded(reason), Vec::new()),
+        None => (accepted, figures::told(at, &base, &frame.message)),
     }
 }
 
@@ -211,6 +234,7 @@ fn told_outcome(text: &str) -> Option<Result<Outcome, String>> {
         None if text.ends_with(" has started: discarded") => Some(Ok(Outcome::Discarded(Discard::HasStarted))),
         None => None,
         Some("accepted") => Some(Ok(Outcome::Accepted)),
+        Some("accepted, in place of the link's Verify-Final") => Some(Ok(Outcome::Replaced)),
         Some(said) => Some(told_reason(said)),
     }
 }
