@@ -2,7 +2,7 @@
 
 use crate::chart::Chart;
 use crate::cut::{bases_in_words, Shown};
-use crate::layout::{wrapped_to, MARGIN, PLAIN};
+use crate::layout::{broken_to, wrapped_to, FIXED, MARGIN, PLAIN};
 use crate::names::Names;
 use crate::refusals::meaning;
 use crate::svg::{Anchor, Svg};
@@ -42,6 +42,13 @@ impl Chart<'_> {
     }
 }
 
+/// A line of text at the end of the picture.
+enum Line {
+    Plain(String),
+    /// Of the schedule, as it stands.
+    Verbatim(String),
+}
+
 /// Answers how far down it reaches.
 pub fn draw(svg: &mut Svg, trace: &Trace, shown: &Shown, names: &Names, width: i32, top: i32) -> i32 {
     let lines = lines(trace, shown, names, width);
@@ -49,13 +56,17 @@ pub fn draw(svg: &mut Svg, trace: &Trace, shown: &Shown, names: &Names, width: i
     if is_refused(trace, shown) {
         svg.rect("refusal", MARGIN, y - 14, width - 2 * MARGIN, (lines.len() as i32 + 1) * LINE);
         for (i, line) in lines.iter().enumerate() {
-            svg.text(if i == 0 { "refusal" } else { "" }, Anchor::Start, MARGIN + 12, y + 6, line);
+            match line {
+                Line::Plain(text) => svg.text(if i == 0 { "refusal" } else { "" }, Anchor::Start, MARGIN + 12, y + 6, text),
+                Line::Verbatim(text) => svg.verbatim(MARGIN + 12, y + 6, text),
+            }
             y += LINE;
         }
         return y + 6;
     }
     for line in &lines {
-        svg.text("", Anchor::Start, MARGIN, y, line);
+        let (Line::Plain(text) | Line::Verbatim(text)) = line;
+        svg.text("", Anchor::Start, MARGIN, y, text);
         y += LINE;
     }
     y - LINE + 4
@@ -75,9 +86,24 @@ fn is_refused(trace: &Trace, shown: &Shown) -> bool {
     shown.whole_end && matches!(trace.end, End::Refused { .. })
 }
 
-fn lines(trace: &Trace, shown: &Shown, names: &Names, width: i32) -> Vec<String> {
+fn lines(trace: &Trace, shown: &Shown, names: &Names, width: i32) -> Vec<Line> {
     let room = width - 2 * MARGIN - 24;
-    sentences(trace, shown, names).iter().flat_map(|sentence| wrapped_to(sentence, PLAIN, room)).collect()
+    let schedule_line = is_refused(trace, shown).then(|| told_line(trace)).flatten();
+    let of = |sentence: &String| -> Vec<Line> {
+        match Some(sentence) == schedule_line {
+            true => broken_to(sentence, FIXED, room).into_iter().map(Line::Verbatim).collect(),
+            false => wrapped_to(sentence, PLAIN, room).into_iter().map(Line::Plain).collect(),
+        }
+    };
+    sentences(trace, shown, names).iter().flat_map(of).collect()
+}
+
+/// The refused line, which the trace tells first.
+fn told_line(trace: &Trace) -> Option<&String> {
+    match &trace.end {
+        End::Refused { told, .. } => told.first(),
+        End::Report { .. } => None,
+    }
 }
 
 fn sentences(trace: &Trace, shown: &Shown, names: &Names) -> Vec<String> {

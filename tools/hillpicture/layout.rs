@@ -186,3 +186,10 @@ pub fn wrapped_to(text: &str, size: i32, width: i32) -> Vec<String> {
     }
     lines
 }
+
+/// By its places, whatever stands there: a line of a schedule can be one long word, and its spaces count.
+pub fn broken_to(text: &str, size: i32, width: i32) -> Vec<String> {
+    let places: Vec<char> = text.chars().collect();
+    let most = (1..=places.len()).take_while(|&count| width_of(&"x".repeat(count), size) <= width).count();
+    places.chunks(most.max(1)).map(|part| part.iter().collect()).collect()
+}

@@ -56,7 +56,24 @@ pub fn draw(svg: &mut Svg, trace: &Trace, shown: &Shown, names: &Names) -> i32 {
     bases(svg, MARGIN + BLOCKS[0], top + SECOND_ROW);
     starts(svg, MARGIN + BLOCKS[1], top + SECOND_ROW);
     stops(svg, MARGIN + BLOCKS[2], top + SECOND_ROW);
-    lists(svg, names, top + SECOND_ROW + 5 * LINE)
+    let bottom = explained(svg, top + SECOND_ROW + 5 * LINE - 8);
+    lists(svg, names, bottom + 8)
+}
+
+/// The words of the schedule's lines and of the checks that no sign stands for.
+fn explained(svg: &mut Svg, mut y: i32) -> i32 {
+    let carried = "carry a b k: the k-th broadcast of base a reaches base b. A base numbers its broadcasts from 1; a base that starts";
+    let numbers = "broadcasts its Announce (1) and the Verify of its own identifier (2).";
+    let certified = "certified: the own identifier and those announced on a link.";
+    let sum = "sum: for each of them one, and one for each link that holds a Verify of it.";
+    let suspects = "suspects: pairs of certified identifiers where the link that announced one holds no Verify of the other.";
+    for sentence in [format!("{carried} {numbers}"), format!("{certified} {sum}"), suspects.to_string()] {
+        for line in wrapped_to(&sentence, PLAIN, WIDTH) {
+            svg.text("quiet", Anchor::Start, MARGIN, y, &line);
+            y += 15;
+        }
+    }
+    y
 }
 
 fn block(svg: &mut Svg, x: i32, top: i32, heading: &str, indent: i32, lines: &[&str]) {

@@ -1,5 +1,5 @@
 //! `hillpicture`: a trace, as `hilltrace` prints it, on standard input; its picture on standard output, as one self-contained SVG file or
-//! as pages of HTML.
+//! as pages of HTML. tools/picture calls it, and its messages are in that name.
 //!
 //! Read: `options` is the command line, `trace` is what a trace says, `read` takes it from text, `cut` has the part that is drawn. Named
 //! and placed: `names` has the short names, `layout` the columns and rows, `sheet` their places on sheets. Drawn: `chart` and `pages` put
@@ -23,7 +23,7 @@ mod svg;
 mod trace;
 
 use cut::Cut;
-use options::{Wish, USAGE};
+use options::Wish;
 use std::io::{Read, Write};
 use std::process::ExitCode;
 
@@ -33,17 +33,16 @@ const WRONG_USE: u8 = 2;
 fn main() -> ExitCode {
     let words: Vec<String> = std::env::args_os().skip(1).map(|word| word.to_string_lossy().into_owned()).collect();
     let done = match options::of(&words) {
-        Ok(Wish::Picture { cut, pages }) => draw(&cut, pages),
-        Ok(Wish::Help) => write(&format!("{USAGE}\n")),
+        Ok(Wish { cut, pages }) => draw(&cut, pages),
         Err(what) => {
-            eprintln!("hillpicture: {what}; hillpicture --help says more");
+            eprintln!("tools/picture: {what}; tools/picture --help says more");
             return ExitCode::from(WRONG_USE);
         }
     };
     match done {
         Ok(()) => ExitCode::SUCCESS,
         Err(what) => {
-            eprintln!("hillpicture: {what}");
+            eprintln!("tools/picture: {what}");
             ExitCode::from(FAILED)
         }
     }

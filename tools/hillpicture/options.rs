@@ -1,16 +1,11 @@
-//! The command line.
+//! The command line, as tools/picture hands it on; its --help explains it.
 
 use crate::cut::Cut;
 
-pub const USAGE: &str = "usage: hillpicture [--lines A-B] [--bases B,B..] [--without-stopped] [--pages] < trace > picture
-  --lines A-B         lines A to B of the schedule
-  --bases B,B..       what these bases hear and do
-  --without-stopped   without what stopped bases discard
-  --pages             pages that print, as one HTML file; else one SVG file";
-
-pub enum Wish {
-    Help,
-    Picture { cut: Cut, pages: bool },
+/// What is to be drawn, and whether on pages.
+pub struct Wish {
+    pub cut: Cut,
+    pub pages: bool,
 }
 
 pub fn of(words: &[String]) -> Result<Wish, String> {
@@ -18,7 +13,6 @@ pub fn of(words: &[String]) -> Result<Wish, String> {
     let mut words = words.iter();
     while let Some(word) = words.next() {
         match word.as_str() {
-            "--help" | "-h" => return Ok(Wish::Help),
             "--pages" => pages = true,
             "--without-stopped" => cut.without_stopped = true,
             "--lines" => cut.lines = Some(words.next().and_then(|word| lines_of(word)).ok_or("--lines takes A-B, as 40-90")?),
@@ -26,7 +20,7 @@ pub fn of(words: &[String]) -> Result<Wish, String> {
             other => return Err(format!("takes no argument {other:?}")),
         }
     }
-    Ok(Wish::Picture { cut, pages })
+    Ok(Wish { cut, pages })
 }
 
 fn lines_of(word: &str) -> Option<(usize, usize)> {

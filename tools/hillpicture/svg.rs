@@ -98,6 +98,11 @@ impl Svg {
         self.put(format_args!("<text class=\"{class}\"{anchor} x=\"{x}\" y=\"{y}\">{}</text>", escaped(text)));
     }
 
+    /// A line of a schedule, with every space that it has.
+    pub fn verbatim(&mut self, x: i32, y: i32, text: &str) {
+        self.put(format_args!("<text class=\"fixed\" xml:space=\"preserve\" x=\"{x}\" y=\"{y}\">{}</text>", escaped(text)));
+    }
+
     pub fn open(&mut self, class: &str) {
         self.put(format_args!("<g class=\"{class}\">"));
     }
