@@ -5,7 +5,7 @@ use crate::case::Case;
 use crate::generate::arrivals::{arrival, output};
 use crate::generate::records::{list_of, sound, Made};
 use crate::generate::settings::identifiers;
-use crate::limits::{LIST_ROOM, MOST_BASES};
+use crate::limits::{LIST_ROOM, MOST_BASES, MOST_LINKS};
 use crate::record::RawBase;
 use crate::rng::Rng;
 use crate::soundness::{broken_rules, Rule};
@@ -70,7 +70,7 @@ fn spoil(rng: &mut Rng, rule: Rule, record: &mut RawBase) {
         Rule::IdleSentNothing => record.sent = 1,
         Rule::IdleHoldsNothing => hold_something(rng, &mut record.links[at], n),
         Rule::LinksPastZero if n < MOST_BASES => {
-            let past = rng.within(n - 1, 14);
+            let past = rng.within(n - 1, MOST_LINKS - 1);
             hold_something(rng, &mut record.links[past], n);
         }
         _ => spoil_link(rng, rule, &mut record.links[at], n),

@@ -1,14 +1,15 @@
 -- The loop stays within the array.
 use Prim.Native.Nat.{_≤_, _-_}
 use borrow.Author.Needs.{needs}
+use Rattle.limits.specs.Limits.{mostBases}
 use Rattle.trace.proofs.say.identifiers.Statement.{statement}
 use Rattle.trace.proofs.say.identifiers.Tie as tie
 
 abbrev Inv-loop : tie.InvT-loop
-Inv-loop count ids i₀ i = i ≤ 16
+Inv-loop count ids i₀ i = i ≤ mostBases
 
 abbrev μ-loop : tie.MeasureT-loop
-μ-loop count ids i₀ i = 16 - i
+μ-loop count ids i₀ i = mostBases - i
 
 loop-holds : tie.Need-loop-holds Inv-loop μ-loop
 loop-holds c = search needs
