@@ -12,6 +12,7 @@ use Rattle.protocol.specs.Record.{certified}
 use Rattle.protocol.specs.Steps.{primeHolds, secondaryHolds, votes}
 use Rattle.change.specs.Heard.{byKind}
 use Rattle.deciding.specs.declared.Decision.{Decision}
+pub mod Laws
 
 unfoldable pub runsOn : Base → ℕ → ℕ → Decision
 runsOn b first sent = record { first = first; sent = sent; stops = false; state = b .state; «final_list» = b .«final_list» }

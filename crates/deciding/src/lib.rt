@@ -12,7 +12,9 @@ use protocol::PRIME;
 use protocol::SECONDARY;
 use sorting::certified_sorted;
 ghost use mathlib.Core.Path.{_≡_};
-ghost use Rattle.deciding.specs.Deciding.{primeDecision, secondaryDecision, voteDecision, decisionOf, runsOn};
+ghost use Rattle.lists.specs.Choice.{choose};
+ghost use Rattle.deciding.specs.Deciding.{primeDecision, secondaryDecision, decisionOf, runsOn};
+ghost use Rattle.deciding.specs.Deciding.Laws.{echoOf, votesOn, vectorDecision};
 
 // The kind of the frame that is broadcast before the check, zero for none; whether a Verify-Final was sent; whether the check stops
 // the base, and its state and final list then.
@@ -69,25 +71,64 @@ fn secondary_decision(base: Base, first: u8, sent: u8, v: [u32; MOST_BASES]) -> 
     }
 }
 
-// The vote, then the secondary check.
-fn vote_decision(base: Base, v: [u32; MOST_BASES]) -> Decision
-    ensures { λ r. ⌜ r ≡ voteDecision base v ⌝ }
+// Whether a vote is broadcast: a Verify-Final, after a Correct-Final alone.
+fn votes_on(base: Base, kind: u8, v: [u32; MOST_BASES]) -> bool
+    ensures { λ r. ⌜ r ≡ votesOn base kind v ⌝ }
 {
-    if is_vote(base, v) {
-        return secondary_decision(base, VERIFY_FINAL, 1, v);
+    if kind != CORRECT_FINAL {
+        return false;
     }
-    secondary_decision(base, 0, base.sent, v)
+    is_vote(base, v)
+}
+
+fn vote_kind(vote: bool) -> u8
+    ensures { λ r. ⌜ r ≡ choose vote 4 0 ⌝ }
+{
+    if vote {
+        return VERIFY_FINAL;
+    }
+    0
+}
+
+fn sent_with(vote: bool, sent: u8) -> u8
+    ensures { λ r. ⌜ r ≡ choose vote 1 sent ⌝ }
+{
+    if vote {
+        return 1;
+    }
+    sent
+}
+
+// The vote, then the secondary check.
+fn vector_decision(base: Base, kind: u8, v: [u32; MOST_BASES]) -> Decision
+    ensures { λ r. ⌜ r ≡ vectorDecision base kind v ⌝ }
+{
+    let vote = votes_on(base, kind, v);
+    secondary_decision(base, vote_kind(vote), sent_with(vote, base.sent), v)
+}
+
+// The kind by which an Announce is echoed, zero for a Verify.
+fn echo_of(kind: u8) -> u8
+    ensures { λ r. ⌜ r ≡ echoOf kind ⌝ }
+{
+    if kind == ANNOUNCE {
+        return VERIFY;
+    }
+    0
 }
 
 // Of a base that has accepted a message of a kind and its identifiers.
 pub fn decide(base: Base, kind: u8, ids: [u32; MOST_BASES]) -> Decision
     ensures { λ r. ⌜ r ≡ decisionOf base kind ids ⌝ }
 {
-    match kind {
-        ANNOUNCE => prime_decision(base, VERIFY),
-        VERIFY => prime_decision(base, 0),
-        CORRECT_FINAL => vote_decision(base, ids),
-        VERIFY_FINAL => secondary_decision(base, 0, base.sent, ids),
-        _ => runs_on(base, 0, base.sent),
+    if VERIFY_FINAL < kind {
+        return runs_on(base, 0, base.sent);
     }
+    if VERIFY < kind {
+        return vector_decision(base, kind, ids);
+    }
+    if kind == 0 {
+        return runs_on(base, 0, base.sent);
+    }
+    prime_decision(base, echo_of(kind))
 }

@@ -4,16 +4,28 @@ use mathlib.Core.Path.{_≡_}
 use mathlib.Core.Bool.{Bool}
 use mathlib.Core.List.{List, [], _∷_, _++_}
 use lib.Dec.{eqb}
-use lib.ListN.{take}
+use lib.ListN.{length, take, getD}
 use Rattle.limits.specs.Refusals.{NetSize}
 use Rattle.lists.specs.Choice.{choose}
+use Rattle.lists.specs.Lists.{member}
 use Rattle.frame.specs.Message.{Message, correctFinal}
 use Rattle.protocol.specs.declared.Base.{Base}
+use Rattle.protocol.specs.declared.Outcome.{Outcome}
+use Rattle.protocol.specs.declared.Outcome.the-variants.{Discarded}
+use Rattle.protocol.specs.Record.{linkAt, certified}
 use Rattle.protocol.specs.Sound.{recordRefusal}
+use Rattle.protocol.specs.Steps.{withLink}
+use Rattle.protocol.specs.Steps.Cases.{begun}
+use Rattle.change.specs.declared.Change.{Change}
 use Rattle.change.specs.Heard.{messageIn}
+use Rattle.accepting.specs.declared.Accepted.{Accepted}
+use Rattle.accepting.specs.Accepting.{acceptedOn}
 use Rattle.deciding.specs.declared.Decision.{Decision}
+use Rattle.deciding.specs.Deciding.{runsOn, decisionOf}
+use Rattle.broadcasting.specs.Broadcasting.{frameIn, lastFrame, acceptedWith}
 pub mod Laws
 pub mod Frames
+pub mod Told
 
 -- a base of a net, and one of its links
 pub record Place (b : Base) (i : ℕ) : Type 0 where
@@ -24,6 +36,37 @@ pub record Place (b : Base) (i : ℕ) : Type 0 where
 pub record Ready (b : Base) (i : ℕ) : Type 0 where
   pub refusal : recordRefusal b ≡ 0
   pub here : i < b .n - 1
+
+-- the message at a link: accepted, and held there, or discarded
+unfoldable pub acceptedAt : Base → ℕ → ℕ → List ℕ → Accepted
+acceptedAt b i kind ids = acceptedOn (b .n) (member (getD ids 0 0) (certified b)) (linkAt b i) kind ids
+
+-- what the base decides then, once it runs; nothing where the message is discarded
+unfoldable pub decidedAt : Base → ℕ → Accepted → ℕ → List ℕ → Decision
+decidedAt b i a kind ids =
+    choose (a .accepted) (decisionOf (withLink (begun b) i (a .link)) kind ids) (runsOn (begun b) 0 (b .sent))
+
+-- the frames that it broadcasts, and the answer with their lengths
+unfoldable pub toldFrames : ℕ → Bool → Decision → List ℕ → ℕ → List ℕ
+toldFrames n accepted d ids room =
+    choose accepted (frameIn n (d .first) ids room ++ lastFrame n (d .first) ids (d .stops) (d .«final_list») room) []
+
+unfoldable pub toldOutcome : ℕ → Bool → Decision → List ℕ → ℕ → Outcome
+toldOutcome n accepted d ids room =
+    choose accepted
+    (acceptedWith (length (frameIn n (d .first) ids room)) (length (lastFrame n (d .first) ids (d .stops) (d .«final_list») room)))
+    (Discarded 0 0 0)
+
+-- what is then to be set in its record
+unfoldable pub toldChange : ℕ → ℕ → Accepted → Decision → List ℕ → ℕ → Change
+toldChange n i a d ids room = record {
+  outcome = toldOutcome n (a .accepted) d ids room;
+  state = d .state;
+  sent = d .sent;
+  place = i;
+  link = a .link;
+  «final_list» = d .«final_list»;
+}
 
 -- the base once it has decided
 unfoldable pub decidedBase : Base → Decision → Base

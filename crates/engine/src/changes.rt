@@ -1,4 +1,5 @@
 // The calls, as what they change.
+use crate::settle::accepted_at;
 use crate::step::begin;
 use crate::step::step;
 use change::Change;
@@ -19,6 +20,7 @@ use protocol::RUNNING;
 use reader::Reading;
 use reader::read;
 use soundness::refusals::place_refusal;
+use soundness::refusals::record_refusal;
 use soundness::refusals::start_refusal;
 use stretch::body;
 ghost use Prim.Native.Nat.{_≤_};
@@ -26,6 +28,7 @@ ghost use mathlib.Core.Path.{_≡_};
 ghost use lib.ListN.{length};
 ghost use Rattle.limits.specs.Limits.{mostBases};
 ghost use Rattle.lists.specs.Choice.{first};
+ghost use Rattle.reader.specs.Answers.{numberIn, kindIn};
 ghost use Rattle.protocol.specs.Steps.{arrival};
 ghost use Rattle.protocol.specs.Steps as Steps;
 ghost use Rattle.change.specs.Change.{Does};
@@ -74,7 +77,7 @@ pub fn hear(base: Base, link: usize, kind: u8, ids: [u32; MOST_BASES], out: &mut
     ensures { λ r. ⌜ Does base (messageArrival base link kind ids (length (now (out .entry)))) r
         (now (out .entry)) (now (out .exit)) ⌝ }
 {
-    let place = place_refusal(base, link, out.len());
+    let place = place_refusal(record_refusal(base), base.n, link, out.len());
     if place != 0 {
         return refused(base, place);
     }
@@ -82,7 +85,8 @@ pub fn hear(base: Base, link: usize, kind: u8, ids: [u32; MOST_BASES], out: &mut
     if number != 0 {
         return refused(base, number);
     }
-    step(base, link - 1, kind, ids, out)
+    let i = link - 1;
+    step(base, i, accepted_at(base, i, kind, ids), kind, ids, out)
 }
 
 // The first of two numbers that is not 0.
@@ -95,20 +99,47 @@ fn first_of(a: u8, b: u8) -> u8
     b
 }
 
+// The number by which a burst is turned down, 0 for a message.
+fn number_in(reading: Reading) -> u8
+    ensures { λ r. ⌜ r ≡ numberIn reading ⌝ }
+{
+    match reading {
+        Reading::Refused(number) => number,
+        Reading::Message {
+            kind: _,
+            count: _,
+            start: _,
+        } => 0,
+    }
+}
+
+fn kind_in(reading: Reading) -> u8
+    ensures { λ r. ⌜ r ≡ kindIn reading ⌝ }
+{
+    match reading {
+        Reading::Refused(_) => 0,
+        Reading::Message {
+            kind,
+            count: _,
+            start: _,
+        } => kind,
+    }
+}
+
 // A burst arrives on a link, 1 to n - 1. Turned down by 1 to 12.
 pub fn arrive(base: Base, link: usize, burst: &[u8], out: &mut [u8]) -> Change
     ensures { λ r. ⌜ Does base (arrival base link (now (burst .entry)) (length (now (out .entry)))) r
         (now (out .entry)) (now (out .exit)) ⌝ }
 {
     let n = base.n as usize;
-    match read(n, burst) {
-        Reading::Refused(number) => {
-            refused(base, first_of(place_refusal(base, link, out.len()), number))
-        }
-        Reading::Message {
-            kind,
-            count: _,
-            start: _,
-        } => hear(base, link, kind, identifiers(body(n, burst)), out),
+    let reading = read(n, burst);
+    let place = place_refusal(record_refusal(base), base.n, link, out.len());
+    let first = first_of(place, number_in(reading));
+    if first != 0 {
+        return refused(base, first);
     }
+    let i = link - 1;
+    let kind = kind_in(reading);
+    let ids = identifiers(body(n, burst));
+    step(base, i, accepted_at(base, i, kind, ids), kind, ids, out)
 }

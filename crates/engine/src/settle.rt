@@ -1,23 +1,34 @@
-// A message at a base that runs, or that has just started.
+// A message at a base that runs, or that has just started: whether it is accepted, what the base then decides, what it broadcasts. The
+// record is read before anything is written.
+use accepting::Accepted;
 use accepting::accept;
 use broadcasting::broadcast;
 use certified::certifies;
 use change::Change;
-use change::discarded;
+use deciding::Decision;
 use deciding::decide;
 use limits::MOST_BASES;
 use protocol::Base;
 use protocol::Link;
+use protocol::Outcome;
 use protocol::RUNNING;
-ghost use Prim.Native.Nat.{_≤_, _<_};
+ghost use Prim.Native.Nat.{_<_};
 ghost use mathlib.Core.Path.{_≡_};
 ghost use lib.ListN.{length};
 ghost use Rattle.limits.specs.Limits.{mostLinks};
-ghost use Rattle.protocol.specs.Steps.{onMessage, encodeAll, withLink};
+ghost use Rattle.frame.specs.Encoding.{over};
+ghost use Rattle.protocol.specs.Steps.{withLink};
 ghost use Rattle.protocol.specs.Steps.Cases.{begun};
-ghost use Rattle.change.specs.Change.{Does};
-ghost use Rattle.change.specs.Heard.{MessageIn, messageIn};
-ghost use Rattle.engine.specs.Settling.{Place};
+ghost use Rattle.engine.specs.Settling.{acceptedAt, decidedAt, toldFrames, toldOutcome, toldChange};
+
+pub(crate) fn accepted_at(base: Base, i: usize, kind: u8, ids: [u32; MOST_BASES]) -> Accepted
+    requires { ⌜ i < mostLinks ⌝ }
+    ensures { λ r. ⌜ r ≡ acceptedAt base i kind ids ⌝ }
+{
+    let link = base.links[i];
+    let g = ids[0];
+    accept(base.n, certifies(base, g), link, kind, ids)
+}
 
 fn running_with(base: Base, i: usize, link: Link) -> Base
     requires { ⌜ i < mostLinks ⌝ }
@@ -29,34 +40,71 @@ fn running_with(base: Base, i: usize, link: Link) -> Base
     next
 }
 
-pub(crate) fn settle(
+pub(crate) fn decided(
     base: Base,
     i: usize,
+    accepted: Accepted,
     kind: u8,
+    ids: [u32; MOST_BASES],
+) -> Decision
+    requires { ⌜ i < mostLinks ⌝ }
+    ensures { λ r. ⌜ r ≡ decidedAt base i accepted kind ids ⌝ }
+{
+    if !accepted.accepted {
+        let list = base.final_list;
+        return Decision {
+            first: 0,
+            sent: base.sent,
+            stops: false,
+            state: RUNNING,
+            final_list: list,
+        };
+    }
+    let link = accepted.link;
+    decide(running_with(base, i, link), kind, ids)
+}
+
+fn said(
+    n: u8,
+    accepted: bool,
+    decision: Decision,
+    ids: [u32; MOST_BASES],
+    out: &mut [u8],
+) -> Outcome
+    ensures { λ r. ⌜ (r ≡ toldOutcome n accepted decision ids (length (now (out .entry))))
+        × (now (out .exit) ≡ over (toldFrames n accepted decision ids (length (now (out .entry)))) (now (out .entry))) ⌝ }
+{
+    if !accepted {
+        return Outcome::Discarded {
+            first: 0,
+            second: 0,
+            third: 0,
+        };
+    }
+    let list = decision.final_list;
+    broadcast(n, decision.first, ids, decision.stops, list, out)
+}
+
+pub(crate) fn told(
+    n: u8,
+    i: usize,
+    accepted: Accepted,
+    decision: Decision,
     ids: [u32; MOST_BASES],
     out: &mut [u8],
 ) -> Change
-    requires { ⌜ Place base i × (MessageIn (base .n) kind ids
-        × (length (encodeAll (onMessage (begun base) i (messageIn (base .n) kind ids) .says)) ≤ length (now out))) ⌝ }
-    ensures { λ r. ⌜ Does base (onMessage (begun base) i (messageIn (base .n) kind ids)) r (now (out .entry)) (now (out .exit)) ⌝ }
+    ensures { λ r. ⌜ (r ≡ toldChange n i accepted decision ids (length (now (out .entry))))
+        × (now (out .exit) ≡ over (toldFrames n (accepted .accepted) decision ids (length (now (out .entry)))) (now (out .entry))) ⌝ }
 {
-    let link = base.links[i];
-    let g = ids[0];
-    let accepted = accept(base.n, certifies(base, g), link, kind, ids);
-    if !accepted.accepted {
-        return discarded(base, RUNNING);
-    }
-    let after = accepted.link;
-    let next = running_with(base, i, after);
-    let decision = decide(next, kind, ids);
+    let link = accepted.link;
     let list = decision.final_list;
-    let outcome = broadcast(base.n, decision.first, ids, decision.stops, list, out);
+    let outcome = said(n, accepted.accepted, decision, ids, out);
     Change {
         outcome,
         state: decision.state,
         sent: decision.sent,
         place: i,
-        link: after,
+        link,
         final_list: list,
     }
 }

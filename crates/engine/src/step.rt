@@ -1,5 +1,7 @@
 // A message at a base in any state: an idle one starts first, a stopped one discards.
-use crate::settle::settle;
+use crate::settle::decided;
+use crate::settle::told;
+use accepting::Accepted;
 use broadcasting::behind_start;
 use change::Change;
 use change::discarded;
@@ -18,7 +20,7 @@ ghost use Rattle.limits.specs.Limits.{frameBytes, outputRoom};
 ghost use Rattle.protocol.specs.Steps.{begins, arrivalStep, outputOf};
 ghost use Rattle.change.specs.Change.{Does};
 ghost use Rattle.change.specs.Heard.{MessageIn, messageIn};
-ghost use Rattle.engine.specs.Settling.{Ready};
+ghost use Rattle.engine.specs.Settling.{Ready, acceptedAt};
 
 // The two frames of a start.
 pub(crate) fn begin(base: Base, out: &mut [u8]) -> TwoLengths
@@ -30,19 +32,29 @@ pub(crate) fn begin(base: Base, out: &mut [u8]) -> TwoLengths
     put_two(ANNOUNCE, VERIFY, base.n, &own, out)
 }
 
-pub(crate) fn step(base: Base, i: usize, kind: u8, ids: [u32; MOST_BASES], out: &mut [u8]) -> Change
-    requires { ⌜ Ready base i × (MessageIn (base .n) kind ids × (outputRoom ≤ length (now out))) ⌝ }
+// With the message accepted at its link or discarded there.
+pub(crate) fn step(
+    base: Base,
+    i: usize,
+    accepted: Accepted,
+    kind: u8,
+    ids: [u32; MOST_BASES],
+    out: &mut [u8],
+) -> Change
+    requires { ⌜ Ready base i × (MessageIn (base .n) kind ids × ((outputRoom ≤ length (now out))
+        × (accepted ≡ acceptedAt base i kind ids))) ⌝ }
     ensures { λ r. ⌜ Does base (arrivalStep base i (messageIn (base .n) kind ids)) r (now (out .entry)) (now (out .exit)) ⌝ }
 {
     if PRIME <= base.state {
         return discarded(base, base.state);
     }
+    let decision = decided(base, i, accepted, kind, ids);
     if base.state != IDLE {
-        return settle(base, i, kind, ids, out);
+        return told(base.n, i, accepted, decision, ids, out);
     }
     let two = begin(base, out);
     let start = two.front + two.next;
-    let rest = settle(base, i, kind, ids, &mut out[start..]);
+    let rest = told(base.n, i, accepted, decision, ids, &mut out[start..]);
     let answer = rest.outcome;
     let link = rest.link;
     let list = rest.final_list;

@@ -8,8 +8,7 @@ use record_soundness::is_sound;
 ghost use mathlib.Core.Path.{_≡_};
 ghost use Rattle.lists.specs.Choice.{first};
 ghost use Rattle.protocol.specs.Sound.{settingRefusal, recordRefusal};
-ghost use Rattle.protocol.specs.Steps.{outputRefusal};
-ghost use Rattle.soundness.specs.Place.{placeRefusal};
+ghost use Rattle.protocol.specs.Steps.{linkRefusal, outputRefusal};
 
 // Numbers 1 to 3, 0 for none.
 pub fn setting_refusal(n: usize, t: usize, own: u32) -> u8
@@ -50,18 +49,17 @@ pub fn start_refusal(base: Base, room: usize) -> u8
     refusal::OUTPUT
 }
 
-// Numbers 1 to 6 of an arrival, 0 for none.
-pub fn place_refusal(base: Base, link: usize, room: usize) -> u8
-    ensures { λ r. ⌜ r ≡ placeRefusal base link room ⌝ }
+// Numbers 5 and 6 of an arrival behind the number of its record, 0 for none.
+pub fn place_refusal(number: u8, n: u8, link: usize, room: usize) -> u8
+    ensures { λ r. ⌜ r ≡ first number (first (linkRefusal n link) (outputRefusal room)) ⌝ }
 {
-    let record = record_refusal(base);
-    if record != 0 {
-        return record;
+    if number != 0 {
+        return number;
     }
     if link < 1 {
         return refusal::LINK;
     }
-    if (base.n as usize) <= link {
+    if (n as usize) <= link {
         return refusal::LINK;
     }
     if room < OUTPUT_ROOM {

@@ -1,58 +1,57 @@
--- `deciding::decide` meets its contract, by the kind.
-use Rattle.deciding.specs.Deciding.{decisionOf}
-use Rattle.change.specs.Heard.Laws.{kind-one, kind-two, kind-three, kind-four, kind-none}
-use mathlib.Core.Path.{sym, _∙_}
+-- `deciding::decide` meets its contract, by the kind: kinds 3 and 4, kinds 1 and 2, and any other.
+use Prim.Native.Nat.{ℕ}
+use mathlib.Core.Path.{ap, _∙_}
+use native.Mathlib.Omega.{arith}
 use borrow.Author.Needs.{needs}
+use Rattle.deciding.specs.Deciding.{primeDecision}
+use Rattle.deciding.specs.Deciding.Laws.{one-decides, vector-decides, none-decides}
 use Rattle.deciding.proofs.decide.Statement.{statement}
 use Rattle.deciding.proofs.decide.Tie as tie
-
-prime-decision-requires : tie.Need-prime-decision-requires
-prime-decision-requires c κs = search needs
-
-prime-decision-requires-2 : tie.Need-prime-decision-requires-2
-prime-decision-requires-2 c κs = search needs
-
-vote-decision-requires : tie.Need-vote-decision-requires
-vote-decision-requires c κs = search needs
-
-secondary-decision-requires : tie.Need-secondary-decision-requires
-secondary-decision-requires c κs = search needs
 
 runs-on-requires : tie.Need-runs-on-requires
 runs-on-requires c κs = search needs
 
 returns : tie.Need-returns
-unfolding decisionOf
-returns c = c .prime-decision .ensures ∙ sym (kind-one _ _ _ _ _ (c .before .match .keys1))
+returns c = let a = c .before .before .args in
+    c .runs-on .ensures
+    ∙ none-decides (a .base) (a .kind) (a .ids) (λ e. omega arith) (λ e. omega arith) (λ e. omega arith) (λ e. omega arith)
+
+vector-decision-requires : tie.Need-vector-decision-requires
+vector-decision-requires c κs = search needs
 
 returns-2 : tie.Need-returns-2
-unfolding decisionOf
-returns-2 c = c .prime-decision2 .ensures ∙ sym (kind-two _ _ _ _ _ (c .before .match .keys2))
+returns-2 c = let a = c .before .before .before .args in
+    c .vector-decision .ensures ∙ vector-decides (a .base) (a .kind) (a .ids) (c .before .if2 .taken) (c .before .before .if1 .left)
+
+runs-on-requires-2 : tie.Need-runs-on-requires-2
+runs-on-requires-2 c κs = search needs
 
 returns-3 : tie.Need-returns-3
-unfolding decisionOf
-returns-3 c = c .vote-decision .ensures ∙ sym (kind-three _ _ _ _ _ (c .before .match .keys3))
+returns-3 c = let a = c .before .before .before .before .args in
+    c .runs-on2 .ensures
+    ∙ none-decides (a .base) (a .kind) (a .ids) (λ e. omega arith) (λ e. omega arith) (λ e. omega arith) (λ e. omega arith)
+
+echo-of-requires : tie.Need-echo-of-requires
+echo-of-requires c κs = search needs
+
+prime-decision-requires : tie.Need-prime-decision-requires
+prime-decision-requires c κs = search needs
 
 returns-4 : tie.Need-returns-4
-unfolding decisionOf
-returns-4 c = c .secondary-decision .ensures ∙ sym (kind-four _ _ _ _ _ (c .before .match .keys4))
-
-returns-5 : tie.Need-returns-5
-unfolding decisionOf
-returns-5 c = let R = c .before .match .rest in
-    c .runs-on .ensures ∙ sym (kind-none _ _ _ _ _ (R .0 .0 .0 .1) (R .0 .0 .1) (R .0 .1) (R .1))
+returns-4 c = let a = c .before .before .before .before .before .args in
+    c .prime-decision .ensures ∙ ap (primeDecision (a .base)) (c .before .echo-of .ensures)
+    ∙ one-decides (a .base) (a .kind) (a .ids) (c .before .before .if3 .left) (c .before .before .before .if2 .left)
 
 pub decide-spec : {M : Type 1} → statement M
 decide-spec =
     tie.close
     (tie.spec
-    prime-decision-requires
-    prime-decision-requires-2
-    vote-decision-requires
-    secondary-decision-requires
     runs-on-requires
     returns
+    vector-decision-requires
     returns-2
+    runs-on-requires-2
     returns-3
-    returns-4
-    returns-5)
+    echo-of-requires
+    prime-decision-requires
+    returns-4)

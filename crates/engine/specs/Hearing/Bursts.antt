@@ -15,13 +15,13 @@ use Rattle.lists.specs.Choice.Laws.{choose-yes, first-none, first-given, first-
 use Rattle.lists.specs.Lists.{padTo, zeros}
 use Rattle.lists.specs.Lists.Zeros.{pad-behind}
 use Rattle.frame.specs.Message.{Message, known, expected}
-use Rattle.frame.specs.Reading.{kindByte, countByte, bodyOf, idsIn, listRefusal, burstRefusal, readRefusal, message, messageOf}
+use Rattle.frame.specs.Reading.{kindByte, countByte, bodyStart, bodyOf, idsIn, listRefusal, burstRefusal, readRefusal, message, messageOf}
 use Rattle.frame.specs.Reading.Laws.{Framed, Passed, trailer-passed, read-passed, length-ids-in, kind-passes}
 use Rattle.reader.specs.declared.Reading.the-variants as reads
 use Rattle.decoding.specs.Decoding.{idArray}
-use Rattle.reader.specs.Answers.{stretch, readingOf}
 use Rattle.decoding.specs.Decoding.Laws.{array-of, array-front}
-use Rattle.reader.specs.Answers.Laws.{reading-message, reading-refused}
+use Rattle.reader.specs.Answers.{stretch, readingOf, numberIn, kindIn}
+use Rattle.reader.specs.Answers.Laws.{reading-number, reading-message}
 use Rattle.protocol.specs.declared.Base.{Base}
 use Rattle.protocol.specs.Sound.{recordRefusal}
 use Rattle.protocol.specs.Sound.Laws.{record-passed}
@@ -45,28 +45,31 @@ module _ (b : Base) (link : ℕ) (s : List ℕ) (room : ℕ) where
   unfolding arrival
   turned-down r e h = unless-refused b _ (λ z. h (sym e ∙ z)) ∙ ap (refuses b) e
 
-  -- the number of the place, or else that of the burst
-  module _ (r : ℕ) (p : readingOf (b .n) s ≡ reads.Refused r) where
-    place-first : placeRefusal b link room ≢ 0 → arrival b link s room ≡ refuses b (first (placeRefusal b link room) r)
-    place-first h =
-        let e = first-given r h in
-        turned-down _ (arrival-number b link s room ∙ first-given (burstRefusal (b .n) s) h ∙ sym e) (λ z. h (sym e ∙ z))
+  -- the number of the place, or else that of the reading
+  same-number : first (placeRefusal b link room) (numberIn (readingOf (b .n) s)) ≡ arrivalRefusal b link s room
+  same-number = go (placeRefusal b link room) refl ∙ sym (arrival-number b link s room)
+    where
+      go : (k : ℕ) → placeRefusal b link room ≡ k
+          → first (placeRefusal b link room) (numberIn (readingOf (b .n) s)) ≡ first (placeRefusal b link room) (burstRefusal (b .n) s)
+      go zero z =
+          let N = record-passed b (place-passed b link room z .ready .refusal) .net in
+          ap (first (placeRefusal b link room)) (reading-number (b .n) s ∙ unfold readRefusal in first-none _ (net-passes N))
+      go (suc k) z =
+          let h : placeRefusal b link room ≢ 0 = λ y. absurd (omega arith) in first-given _ h ∙ sym (first-given _ h)
 
-    burst-then : placeRefusal b link room ≡ 0 → arrival b link s room ≡ refuses b (first (placeRefusal b link room) r)
-    unfolding readRefusal
-    burst-then h =
-        let q = reading-refused (b .n) s r p in
-        let N = record-passed b (place-passed b link room h .ready .refusal) .net in
-        let k : burstRefusal (b .n) s ≡ r = sym (first-none _ (net-passes N)) ∙ q .0 in
-        let e = first-none r h in
-        turned-down _ (arrival-number b link s room ∙ first-none _ h ∙ k ∙ sym e) (λ z. q .1 (sym e ∙ z))
+  pub burst-down : (x : ℕ) → x ≡ first (placeRefusal b link room) (numberIn (readingOf (b .n) s)) → x ≢ 0
+      → arrival b link s room ≡ refuses b x
+  burst-down x e h = turned-down x (sym (e ∙ same-number)) h
 
-    pub burst-down : (x : ℕ) → x ≡ first (placeRefusal b link room) r → arrival b link s room ≡ refuses b x
-    burst-down x e = go (placeRefusal b link room) refl ∙ ap (refuses b) (sym e)
-      where
-        go : (k : ℕ) → placeRefusal b link room ≡ k → arrival b link s room ≡ refuses b (first (placeRefusal b link room) r)
-        go zero z = burst-then z
-        go (suc k) z = place-first (λ y. absurd (omega arith))
+  -- no number: a message was read
+  pub burst-read : first (placeRefusal b link room) (numberIn (readingOf (b .n) s)) ≡ 0
+      → (placeRefusal b link room ≡ 0)
+      × (readingOf (b .n) s ≡ reads.Message (kindIn (readingOf (b .n) s)) (countByte s) (bodyStart s))
+  unfolding readingOf kindIn
+  burst-read e =
+      let p = first-passed _ _ e in
+      let m = choose-yes _ _ (eq-eqb _ 0 (sym (reading-number (b .n) s) ∙ p .1)) in
+      (p .0, m ∙ ap (λ (k : ℕ). reads.Message k (countByte s) (bodyStart s)) (sym (ap kindIn m)))
 
   -- ---- a message
   module _ (kind count start : ℕ) (p : readingOf (b .n) s ≡ reads.Message kind count start) where

@@ -31,6 +31,13 @@ pub record PlacePassed (b : Base) (link room : ℕ) : Type 0 where
   pub some : 1 ≤ link
   pub wide : outputRoom ≤ room
 
+-- the number that the code has is that of the place
+pub place-number : (b : Base) (link room record-number r : ℕ) → record-number ≡ recordRefusal b
+    → r ≡ first record-number (first (linkRefusal (b .n) link) (outputRefusal room)) → r ≡ placeRefusal b link room
+unfolding placeRefusal
+place-number b link room record-number r e p =
+    p ∙ ap (λ (k : ℕ). first k (first (linkRefusal (b .n) link) (outputRefusal room))) e
+
 pub place-passed : (b : Base) (link room : ℕ) → placeRefusal b link room ≡ 0 → PlacePassed b link room
 unfolding placeRefusal
 place-passed b link room e =

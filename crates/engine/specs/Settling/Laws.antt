@@ -264,6 +264,11 @@ unfolding unlessDiscarded choose
 unfolded-no true l after e = refl
 unfolded-no false l after e = sym e
 
+unfolded-kept : (t : Bool) (l after : Link) → unlessDiscarded t l after .accepted ≡ false → unlessDiscarded t l after .link ≡ l
+unfolding unlessDiscarded choose
+unfolded-kept true l after e = refl
+unfolded-kept false l after e = absurd (let w : _≡_ {A = ℕ} 0 1 = cc in omega arith)
+
 unfolded-yes : (t : Bool) (l after : Link)
     → unlessDiscarded t l after .accepted ≡ true → (t ≡ false) × (unlessDiscarded t l after .link ≡ after)
 unfolding unlessDiscarded choose
@@ -278,6 +283,13 @@ module _ (b : Base) (i kind : ℕ)
       let S = split-message b i kind ids z most M in
       let q : a ≡ unlessDiscarded (S .dropped) (linkAt b i) (S .after) = p ∙ S .accepted in
       S .step ∙ choose-yes _ _ (unfolded-no (S .dropped) (linkAt b i) (S .after) (sym (ap (λ (x : Accepted). x .accepted) q) ∙ e))
+
+  pub link-kept : a .accepted ≡ false → a .link ≡ linkAt b i
+  link-kept e =
+      let S = split-message b i kind ids z most M in
+      let q : a ≡ unlessDiscarded (S .dropped) (linkAt b i) (S .after) = p ∙ S .accepted in
+      ap (λ (x : Accepted). x .link) q
+      ∙ unfolded-kept (S .dropped) (linkAt b i) (S .after) (sym (ap (λ (x : Accepted). x .accepted) q) ∙ e)
 
   pub accepted-by-link : a .accepted ≡ true → let c = withLink b i (a .link) in
       DecidedAs c (decisionOf c kind ids) ids (onMessage b i (messageIn (b .n) kind ids))
