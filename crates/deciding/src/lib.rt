@@ -13,8 +13,8 @@ use protocol::SECONDARY;
 use sorting::certified_sorted;
 ghost use mathlib.Core.Path.{_≡_};
 ghost use Rattle.lists.specs.Choice.{choose};
-ghost use Rattle.deciding.specs.Deciding.{primeDecision, secondaryDecision, decisionOf, runsOn};
-ghost use Rattle.deciding.specs.Deciding.Laws.{echoOf, votesOn, vectorDecision};
+ghost use Rattle.deciding.specs.Deciding.{primeDecision, secondaryDecision, decisionOf};
+ghost use Rattle.deciding.specs.Deciding.Laws.{runsWith, echoOf, votesOn, vectorDecision};
 
 // The kind of the frame that is broadcast before the check, zero for none; whether a Verify-Final was sent; whether the check stops
 // the base, and its state and final list then.
@@ -26,24 +26,24 @@ pub struct Decision {
     pub final_list: [u32; MOST_BASES],
 }
 
-fn runs_on(base: Base, first: u8, sent: u8) -> Decision
-    ensures { λ r. ⌜ r ≡ runsOn base first sent ⌝ }
+fn runs_on(state: u8, kept: [u32; MOST_BASES], first: u8, sent: u8) -> Decision
+    ensures { λ r. ⌜ r ≡ runsWith state kept first sent ⌝ }
 {
-    let list = base.final_list;
     Decision {
         first,
         sent,
         stops: false,
-        state: base.state,
-        final_list: list,
+        state,
+        final_list: kept,
     }
 }
 
-fn prime_decision(base: Base, first: u8) -> Decision
+fn prime_decision(base: Base, kept: [u32; MOST_BASES], first: u8) -> Decision
+    requires { ⌜ kept ≡ base .«final_list» ⌝ }
     ensures { λ r. ⌜ r ≡ primeDecision base first ⌝ }
 {
     if !is_prime(base) {
-        return runs_on(base, first, base.sent);
+        return runs_on(base.state, kept, first, base.sent);
     }
     let list = certified_sorted(base);
     Decision {
@@ -56,11 +56,18 @@ fn prime_decision(base: Base, first: u8) -> Decision
 }
 
 // On the first n identifiers of v.
-fn secondary_decision(base: Base, first: u8, sent: u8, v: [u32; MOST_BASES]) -> Decision
+fn secondary_decision(
+    base: Base,
+    kept: [u32; MOST_BASES],
+    first: u8,
+    sent: u8,
+    v: [u32; MOST_BASES],
+) -> Decision
+    requires { ⌜ kept ≡ base .«final_list» ⌝ }
     ensures { λ r. ⌜ r ≡ secondaryDecision base first sent v ⌝ }
 {
     if !is_secondary(base, v) {
-        return runs_on(base, first, sent);
+        return runs_on(base.state, kept, first, sent);
     }
     Decision {
         first,
@@ -100,11 +107,12 @@ fn sent_with(vote: bool, sent: u8) -> u8
 }
 
 // The vote, then the secondary check.
-fn vector_decision(base: Base, kind: u8, v: [u32; MOST_BASES]) -> Decision
+fn vector_decision(base: Base, kept: [u32; MOST_BASES], kind: u8, v: [u32; MOST_BASES]) -> Decision
+    requires { ⌜ kept ≡ base .«final_list» ⌝ }
     ensures { λ r. ⌜ r ≡ vectorDecision base kind v ⌝ }
 {
     let vote = votes_on(base, kind, v);
-    secondary_decision(base, vote_kind(vote), sent_with(vote, base.sent), v)
+    secondary_decision(base, kept, vote_kind(vote), sent_with(vote, base.sent), v)
 }
 
 // The kind by which an Announce is echoed, zero for a Verify.
@@ -121,14 +129,15 @@ fn echo_of(kind: u8) -> u8
 pub fn decide(base: Base, kind: u8, ids: [u32; MOST_BASES]) -> Decision
     ensures { λ r. ⌜ r ≡ decisionOf base kind ids ⌝ }
 {
+    let kept = base.final_list;
     if VERIFY_FINAL < kind {
-        return runs_on(base, 0, base.sent);
+        return runs_on(base.state, kept, 0, base.sent);
     }
     if VERIFY < kind {
-        return vector_decision(base, kind, ids);
+        return vector_decision(base, kept, kind, ids);
     }
     if kind == 0 {
-        return runs_on(base, 0, base.sent);
+        return runs_on(base.state, kept, 0, base.sent);
     }
-    prime_decision(base, echo_of(kind))
+    prime_decision(base, kept, echo_of(kind))
 }

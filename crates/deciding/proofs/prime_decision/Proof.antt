@@ -1,5 +1,6 @@
 -- `deciding::prime_decision` meets its contract, by whether the check holds.
 use Rattle.deciding.specs.Deciding.{primeDecision, stopsWith}
+use Rattle.deciding.specs.Deciding.Laws.{runs-kept}
 use Rattle.lists.specs.Choice.Laws.{chosen-yes, chosen-no}
 use borrow.Author.Tests.{not-true, not-false}
 use mathlib.Core.Path.{sym, ap, _∙_}
@@ -15,7 +16,8 @@ runs-on-requires c κs = search needs
 
 returns : tie.Need-returns
 unfolding primeDecision
-returns c = chosen-no _ (sym (c .before .before .is-prime .ensures) ∙ not-true _ (c .before .if1 .taken)) (c .runs-on .ensures)
+returns c = chosen-no _ (sym (c .before .before .is-prime .ensures) ∙ not-true _ (c .before .if1 .taken))
+    (c .runs-on .ensures ∙ runs-kept _ _ _ _ (c .before .before .before .pre))
 
 certified-sorted-requires : tie.Need-certified-sorted-requires
 certified-sorted-requires c κs = search needs

@@ -1,11 +1,11 @@
 -- `deciding::runs_on` meets its contract.
-use Rattle.deciding.specs.Deciding.{runsOn}
+use Rattle.deciding.specs.Deciding.Laws.{runsWith}
 use mathlib.Core.Path.{refl}
 use Rattle.deciding.proofs.runs_on.Statement.{statement}
 use Rattle.deciding.proofs.runs_on.Tie as tie
 
 returns : tie.Need-returns
-unfolding runsOn
+unfolding runsWith
 returns c = refl
 
 pub runs-on-spec : {M : Type 1} → statement M

@@ -1,5 +1,6 @@
 -- `deciding::secondary_decision` meets its contract, by whether the check holds.
 use Rattle.deciding.specs.Deciding.{secondaryDecision, stopsWith}
+use Rattle.deciding.specs.Deciding.Laws.{runs-kept}
 use Rattle.lists.specs.Choice.Laws.{chosen-yes, chosen-no}
 use borrow.Author.Tests.{not-true, not-false}
 use mathlib.Core.Path.{refl, sym, _∙_}
@@ -15,7 +16,8 @@ runs-on-requires c κs = search needs
 
 returns : tie.Need-returns
 unfolding secondaryDecision
-returns c = chosen-no _ (sym (c .before .before .is-secondary .ensures) ∙ not-true _ (c .before .if1 .taken)) (c .runs-on .ensures)
+returns c = chosen-no _ (sym (c .before .before .is-secondary .ensures) ∙ not-true _ (c .before .if1 .taken))
+    (c .runs-on .ensures ∙ runs-kept _ _ _ _ (c .before .before .before .pre))
 
 returns-2 : tie.Need-returns-2
 unfolding secondaryDecision stopsWith

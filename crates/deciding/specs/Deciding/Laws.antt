@@ -15,6 +15,15 @@ use Rattle.change.specs.Heard.Laws.{kind-one, kind-two, kind-three, kind-four, 
 use Rattle.deciding.specs.declared.Decision.{Decision}
 use Rattle.deciding.specs.Deciding.{runsOn, primeDecision, secondaryDecision, voteDecision, decisionOf}
 
+-- with the state and the final list that the base has
+unfoldable pub runsWith : ℕ → List ℕ → ℕ → ℕ → Decision
+runsWith state kept first sent = record { first = first; sent = sent; stops = false; state = state; «final_list» = kept }
+
+pub runs-kept : (b : Base) (kept : List ℕ) (first sent : ℕ) → kept ≡ b .«final_list»
+    → runsWith (b .state) kept first sent ≡ runsOn b first sent
+unfolding runsWith runsOn
+runs-kept b kept first sent e = ap (λ (l : List ℕ). runsWith (b .state) l first sent) e
+
 -- the kind by which an Announce is echoed, zero for a Verify
 unfoldable pub echoOf : ℕ → ℕ
 echoOf kind = choose (eqb kind 1) 2 0

@@ -74,7 +74,8 @@ refused-requires c κs = search needs
 
 returns : tie.Need-returns
 returns c = let f = c .before .before in let a = f .before .before .before .before .before .before .before .before .args in
-    does-as (burst-down (a .base) (a .link) (a .burst .now) _ _ (number f) (c .before .if1 .taken)) (refuses-does _ _ _ (c .refused .ensures))
+    does-as (burst-down (a .base) (a .link) (a .burst .now) _ _ (number f) (c .before .if1 .taken))
+    (refuses-does _ _ _ (c .refused .ensures))
 
 sub-i : tie.Need-sub-i
 sub-i c = passed c .some
