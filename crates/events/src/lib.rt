@@ -1,5 +1,5 @@
 // A carry and a forgery, each on the nodes that it names. What is turned down, by 16 to 18 or by the base's call, leaves the base
-// that it would reach as it was. A start is the call alone (crate `node_calls`). specs/Represents.antt has what these do to the net.
+// that it would reach as it was. A start is the call alone (crate `node_calls`). Crate `representation` has what these do to the net.
 use decoding::identifiers;
 use limits::IDENTIFIER_BYTES;
 use limits::refusal;

@@ -19,9 +19,10 @@ use Rattle.protocol.specs.Agreement.{Proper}
 use Rattle.net.specs.Abstraction.{netOf, faultyOf, faultyRoom, size}
 use Rattle.net.specs.Header.{madeNet, namedNet, markedNet}
 use Rattle.events.specs.Events.{moved, after}
-use Rattle.events.specs.Represents.{Represents, History}
-use Rattle.events.specs.Represents.Beginning.{represents-made, represents-named, represents-faulty, represents-number, represents-waiting}
-use Rattle.events.specs.Represents.Histories.{represents-goes-on}
+use Rattle.representation.specs.Represents.{Represents, History}
+use Rattle.representation.specs.Represents.Beginning.{represents-made, represents-named, represents-faulty}
+use Rattle.representation.specs.Represents.Beginning.{represents-number, represents-waiting}
+use Rattle.representation.specs.Represents.Histories.{represents-goes-on}
 use Rattle.schedule.specs.Header.{idRefusal, faultyRefusal}
 use Rattle.schedule.specs.Walk.{repeat, nextLine, netStep, headerWalk, walk}
 use Rattle.schedule.specs.Meaning.{

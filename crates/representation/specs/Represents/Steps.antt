@@ -22,11 +22,11 @@ use Rattle.node.specs.Node as Nodes
 use Rattle.node.specs.Node.Memory.{SizedNode}
 use Rattle.net.specs.declared.StoredNet.{StoredNet}
 use Rattle.net.specs.Abstraction.{nodeAt, withNode, netOf, faultyOf}
 use Rattle.events.specs.Events.{marks, after}
-use Rattle.events.specs.Represents.{SizedNet}
-use Rattle.events.specs.Represents.Nodes.{after-base, after-heard, after-sized, after-log}
-use Rattle.events.specs.Represents.Marks.{marked-base, marked-log, marked-sized, marked-heard, heard-same}
-use Rattle.events.specs.Represents.Tables.{
+use Rattle.representation.specs.Represents.{SizedNet}
+use Rattle.representation.specs.Represents.Nodes.{after-base, after-heard, after-sized, after-log}
+use Rattle.representation.specs.Represents.Marks.{marked-base, marked-log, marked-sized, marked-heard, heard-same}
+use Rattle.representation.specs.Represents.Tables.{
   replaced-map,
   net-same,
   with-node-is,

@@ -28,8 +28,8 @@ use Rattle.net.specs.declared.Faulty.{Faulty}
 use Rattle.net.specs.Abstraction.{noNode, emptyNode, nodeAt, withNode, netOf, pairOf, pairsOf, faultyOf, faultyRoom, size}
 use Rattle.net.specs.Abstraction.Pairs.{noPair}
 use Rattle.net.specs.Header.{madeNet, namedNet, markedNet}
-use Rattle.events.specs.Represents.{Represents}
-use Rattle.events.specs.Represents.Tables.{
+use Rattle.representation.specs.Represents.{Represents}
+use Rattle.representation.specs.Represents.Tables.{
   replaced-map,
   net-same,
   with-node-is,

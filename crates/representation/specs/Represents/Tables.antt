@@ -21,7 +21,7 @@ use Rattle.node.specs.Node.Memory.{SizedNode}
 use Rattle.node.specs.Node.Within.{within-range}
 use Rattle.net.specs.declared.StoredNet.{StoredNet}
 use Rattle.net.specs.Abstraction.{noNode, nodeAt, withNode, emptyNode, faultyOf}
-use Rattle.events.specs.Represents.{SizedNet}
+use Rattle.representation.specs.Represents.{SizedNet}
 
 -- ---- tables
 choose-same : {A : Type 0} (t : Bool) {a c : A} (b : A) → (t ≡ true → a ≡ c) → choose t a b ≡ choose t c b

@@ -21,9 +21,9 @@ use Rattle.node.specs.Node.{mostBroadcasts, inRange}
 use Rattle.node.specs.Node.Within.{is-within}
 use Rattle.net.specs.declared.StoredNet.{StoredNet}
 use Rattle.net.specs.Abstraction.{netOf, faultyOf}
 use Rattle.events.specs.Events.{after}
-use Rattle.events.specs.Represents.{Represents, History}
-use Rattle.events.specs.Represents.Steps.{HasPlace, abstract-after, after-sized-net, after-links, after-n, after-t}
+use Rattle.representation.specs.Represents.{Represents, History}
+use Rattle.representation.specs.Represents.Steps.{HasPlace, abstract-after, after-sized-net, after-links, after-n, after-t}
 
 -- ---- histories
 run-snoc : (faulty : List Pair) (W : Nets.Net) (es : List Event) (e : Event)
