@@ -158,8 +158,11 @@ fn note(event: &Event, part: Part, names: &Names) -> Vec<String> {
             vec![format!("base {at} stops: {state}"), format!("list {}, leader {}, sends {by_stop}", names.list(&stop.list), stop.leader)]
         }
         (_, Some(hearing), _) => match &hearing.outcome {
-            Outcome::Accepted if by_arrival.is_empty() => Vec::new(),
-            Outcome::Accepted => vec![format!("base {at} sends {by_arrival}")],
+            Outcome::Accepted(besides) => {
+                let sends = (!by_arrival.is_empty()).then(|| format!("base {at} sends {by_arrival}"));
+                let besides = (!besides.is_empty()).then(|| besides.clone());
+                besides.into_iter().chain(sends).collect()
+            }
             Outcome::Discarded(why) => vec![format!("discarded: {why}")],
             Outcome::Refused(why) => vec![format!("refused by {why}")],
         },

@@ -217,7 +217,7 @@ fn hearing_of(heard: &str, from: usize, n: usize) -> Option<Hearing> {
     let message = message_of(&words, n)?;
     let burst = matches!(message, Message::Bytes(_));
     let outcome = match outcome.split_once(", ").unwrap_or((outcome, "")) {
-        ("accepted", _) if !burst => Outcome::Accepted,
+        ("accepted", besides) if !burst => Outcome::Accepted(besides.to_string()),
         ("discarded", why) if !burst => Outcome::Discarded(why.to_string()),
         (refused, why) if burst => {
             let number: usize = refused.strip_prefix("refused by ")?.parse().ok()?;

@@ -81,7 +81,8 @@ pub enum Message {
 }
 
 pub enum Outcome {
-    Accepted,
+    /// What the trace says besides, if anything.
+    Accepted(String),
     Discarded(String),
     Refused(String),
 }
