@@ -3,6 +3,8 @@ use frame::kind::ANNOUNCE;
 use frame::kind::CORRECT_FINAL;
 use frame::kind::VERIFY;
 use frame::kind::VERIFY_FINAL;
+use held::HELD_CORRECT_FINAL;
+use held::HELD_VERIFY_FINAL;
 use held::has_announce;
 use held::holds_verify;
 use held::is_full;
@@ -106,8 +108,13 @@ pub fn accept(n: u8, certified: bool, link: Link, kind: u8, ids: [u32; MOST_BASE
     match kind {
         ANNOUNCE => announced(n, certified, link, g),
         VERIFY => verified(n, link, g),
-        CORRECT_FINAL => holding(link.held == 3, 3, link, ids),
-        VERIFY_FINAL => holding(link.held != 0, 4, link, ids),
+        CORRECT_FINAL => holding(
+            link.held == HELD_CORRECT_FINAL,
+            HELD_CORRECT_FINAL,
+            link,
+            ids,
+        ),
+        VERIFY_FINAL => holding(link.held != 0, HELD_VERIFY_FINAL, link, ids),
         _ => Accepted {
             accepted: false,
             link,

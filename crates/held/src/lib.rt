@@ -7,6 +7,11 @@ ghost use mathlib.Core.Path.{_≡_};
 ghost use lib.ListN.{take};
 ghost use Rattle.protocol.specs.Links.{announces, holdsVerify, used, full, holdsVector};
 
+// The kind of the vector message that a link holds, in the width that the link has for it.
+pub const HELD_CORRECT_FINAL: u16 = 3;
+
+pub const HELD_VERIFY_FINAL: u16 = 4;
+
 pub fn has_announce(link: Link) -> bool
     ensures { λ r. ⌜ r ≡ announces link ⌝ }
 {

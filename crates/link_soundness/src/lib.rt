@@ -1,6 +1,8 @@
 // Whether what is held of one link is sound, or nothing.
 use comparison::ascends;
 use comparison::zero_behind;
+use held::HELD_CORRECT_FINAL;
+use held::HELD_VERIFY_FINAL;
 use held::held_count;
 use limits::MOST_BASES;
 use membership::differ;
@@ -43,8 +45,8 @@ fn held_sound(n: u8, link: Link) -> bool
     let list = link.list;
     match kind {
         0 => zero_behind(&list, 0),
-        3 => list_sound(n, list),
-        4 => list_sound(n, list),
+        HELD_CORRECT_FINAL => list_sound(n, list),
+        HELD_VERIFY_FINAL => list_sound(n, list),
         _ => false,
     }
 }

@@ -2,7 +2,6 @@
 use certified::certified_ids;
 use comparison::zero_behind;
 use limits::MOST_LINKS;
-use link_soundness::link_empty;
 use link_soundness::list_sound;
 use link_soundness::place_sound;
 use membership::differ;
@@ -11,31 +10,42 @@ use protocol::IDLE;
 use protocol::PRIME;
 use protocol::SECONDARY;
 ghost use mathlib.Core.Path.{_≡_};
-ghost use Rattle.protocol.specs.Sound.{linksSound, linksEmpty, announcesSound, finalSound, idleSound, sound};
+ghost use lib.Dec.{eqb, leb};
+ghost use Rattle.limits.specs.Limits.{mostLinks};
+ghost use Rattle.lists.specs.Choice.{choose};
+ghost use Rattle.counting.specs.Sums.{all};
+ghost use Rattle.protocol.specs.Record.{linkAt};
+ghost use Rattle.protocol.specs.Sound.{placeSound, announcesSound, finalSound, sound};
 
-fn links_sound(base: Base) -> bool
-    ensures { λ r. ⌜ r ≡ linksSound base ⌝ }
+// The flag that a Verify-Final was sent: 0 or 1, and 0 of an idle base.
+fn sent_sound(state: u8, sent: u8) -> bool
+    ensures { λ r. ⌜ r ≡ choose (eqb state 0) (eqb sent 0) (leb sent 1) ⌝ }
 {
-    let mut i = MOST_LINKS;
-    while 0 < i {
-        let j = i - 1;
-        let link = base.links[j];
-        if !place_sound(base.n, j, link) {
-            return false;
-        }
-        i = j;
+    if state == IDLE {
+        return sent == 0;
     }
-    true
+    sent <= 1
 }
 
-fn links_empty(base: Base) -> bool
-    ensures { λ r. ⌜ r ≡ linksEmpty base ⌝ }
+// The bases from which a link may hold something: an idle base holds nothing, as if it were alone.
+fn heard_size(state: u8, n: u8) -> u8
+    ensures { λ r. ⌜ r ≡ choose (eqb state 0) 1 n ⌝ }
+{
+    if state == IDLE {
+        return 1;
+    }
+    n
+}
+
+// Every place, in a net of that size.
+fn links_sound(base: Base, size: u8) -> bool
+    ensures { λ r. ⌜ r ≡ all mostLinks (λ i. placeSound size i (linkAt base i)) ⌝ }
 {
     let mut i = MOST_LINKS;
     while 0 < i {
         let j = i - 1;
         let link = base.links[j];
-        if !link_empty(link) {
+        if !place_sound(size, j, link) {
             return false;
         }
         i = j;
@@ -61,35 +71,20 @@ fn final_sound(base: Base) -> bool
     zero_behind(&list, 0)
 }
 
-fn idle_sound(base: Base) -> bool
-    ensures { λ r. ⌜ r ≡ idleSound base ⌝ }
-{
-    if base.state != IDLE {
-        return true;
-    }
-    if base.sent != 0 {
-        return false;
-    }
-    links_empty(base)
-}
-
 pub fn is_sound(base: Base) -> bool
     ensures { λ r. ⌜ r ≡ sound base ⌝ }
 {
     if SECONDARY < base.state {
         return false;
     }
-    if 1 < base.sent {
+    if !sent_sound(base.state, base.sent) {
         return false;
     }
-    if !links_sound(base) {
+    if !links_sound(base, heard_size(base.state, base.n)) {
         return false;
     }
     if !announces_sound(base) {
         return false;
     }
-    if !final_sound(base) {
-        return false;
-    }
-    idle_sound(base)
+    final_sound(base)
 }

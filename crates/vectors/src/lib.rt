@@ -1,6 +1,8 @@
 // The tally of a list, and the links that hold it as Correct-Final.
 use certified::link_count;
 use counting::one;
+use held::HELD_CORRECT_FINAL;
+use held::HELD_VERIFY_FINAL;
 use held::holds_vector;
 use limits::MOST_BASES;
 use protocol::Base;
@@ -19,8 +21,8 @@ pub fn list_tally(base: Base, v: [u32; MOST_BASES]) -> usize
     let mut i: usize = 0;
     while i < k {
         let link = base.links[i];
-        let correct = one(holds_vector(base.n, 3, link, v));
-        let verify = one(holds_vector(base.n, 4, link, v));
+        let correct = one(holds_vector(base.n, HELD_CORRECT_FINAL, link, v));
+        let verify = one(holds_vector(base.n, HELD_VERIFY_FINAL, link, v));
         count += correct + verify;
         i += 1;
     }
@@ -36,7 +38,7 @@ pub fn correct_count(base: Base, v: [u32; MOST_BASES]) -> usize
     let mut i: usize = 0;
     while i < k {
         let link = base.links[i];
-        count += one(holds_vector(base.n, 3, link, v));
+        count += one(holds_vector(base.n, HELD_CORRECT_FINAL, link, v));
         i += 1;
     }
     count

@@ -5,16 +5,16 @@ use borrow.Author.Tests.{not-true, not-false}
 use borrow.Author.Needs.{needs}
 use Rattle.limits.specs.Limits.{mostLinks}
 use Rattle.protocol.specs.Record.{linkAt}
-use Rattle.protocol.specs.Sound.{linksSound, placeSound}
+use Rattle.protocol.specs.Sound.{placeSound}
 use Rattle.record_soundness.proofs.Each.{PassedFrom, passed-none, passed-next, passed-fails, passed-all}
 use Rattle.record_soundness.proofs.links_sound.Statement.{statement}
 use Rattle.record_soundness.proofs.links_sound.Tie as tie
 
 abbrev Inv-loop : tie.InvT-loop
-Inv-loop base i₀ i = PassedFrom mostLinks (λ j. placeSound (base .n) j (linkAt base j)) i
+Inv-loop size base i₀ i = PassedFrom mostLinks (λ j. placeSound size j (linkAt base j)) i
 
 abbrev μ-loop : tie.MeasureT-loop
-μ-loop base i₀ i = i
+μ-loop size base i₀ i = i
 
 loop-holds : tie.Need-loop-holds Inv-loop μ-loop
 loop-holds c = passed-none _ _
@@ -32,7 +32,7 @@ place-sound-requires : tie.Need-place-sound-requires Inv-loop μ-loop
 place-sound-requires c κs = search needs
 
 returns : tie.Need-returns Inv-loop μ-loop
-unfolding linksSound linkAt
+unfolding linkAt
 returns c = let s = c .before .before .before in
     passed-fails _ _ (s .before .loop .inv) (s .loop-test .taken) (sym (c .before .place-sound .ensures) ∙ not-true _ (c .if1 .taken))
 
@@ -45,7 +45,6 @@ loop-again c = let s = c .before .before .before in
     passed-next _ _ (s .before .loop .inv) (s .loop-test .taken) (sym (c .before .place-sound .ensures) ∙ not-false _ (c .if1 .left))
 
 returns-2 : tie.Need-returns-2 Inv-loop μ-loop
-unfolding linksSound
 returns-2 c = passed-all _ _ (c .before .loop .inv) (omega arith)
 
 pub links-sound-spec : {M : Type 1} → statement M
