@@ -1,32 +1,16 @@
-// The lines of events.
-use crate::walk::Walk;
-use crate::walk::halt;
-use crate::walk::onward;
-use crate::walk::show_line;
+// The lines of events: each is taken by replay's own step, and shown by what the net was before it.
+use crate::line::show_line;
 use hexadecimal::hex_bytes;
-use limits::refusal::FORM;
 use lines::event::Line;
 use lines::event::event_line;
+use net::StoredNet;
 use net::nodes::node_at;
-use net::nodes::with_node;
 use node::log::broadcast;
 use numbering::link_to;
 use output::parts::part;
+use replay::line::line_step;
 use trace::call;
 use trace::call::Arrival;
-
-fn started(s: &[u8], walk: Walk, b: u8, next: usize) -> Walk {
-    let net = walk.net;
-    let node = node_at(net, b);
-    show_line(s, walk, next);
-    call::start_call(b, node);
-    let told = node_calls::start(node);
-    if told.refusal != 0 {
-        return onward(walk, net, next);
-    }
-    let after = told.node;
-    onward(walk, with_node(net, b, after), next)
-}
 
 // From base a to base b.
 fn arrival_from(a: u8, b: u8, forged: bool) -> Arrival {
@@ -37,86 +21,96 @@ fn arrival_from(a: u8, b: u8, forged: bool) -> Arrival {
     }
 }
 
-// A refused carry, whose sender has broadcast so many messages.
-fn halt_carry(walk: Walk, refusal: u8, broadcasts: usize) -> Walk {
-    let mut after = halt(walk, refusal);
-    after.broadcasts = broadcasts;
-    after
-}
-
-fn carried(s: &[u8], walk: Walk, a: u8, b: u8, k: usize, next: usize) -> Walk {
-    let net = walk.net;
-    let faulty = net.faulty;
-    let sender = node_at(net, a);
-    let node = node_at(net, b);
-    let reached = events::carry(sender, node, faulty, a, b, k);
-    if reached.refusal != 0 {
-        return halt_carry(walk, reached.refusal, sender.count);
-    }
-    show_line(s, walk, next);
-    let frame = broadcast(sender, k);
+fn carried(net: StoredNet, a: u8, b: u8, k: usize) {
+    let frame = broadcast(node_at(net, a), k);
     let bytes = frame.bytes;
     call::arrival_call(
         b,
-        node,
+        node_at(net, b),
         arrival_from(a, b, false),
         part(&bytes, 0, frame.len),
     );
-    let after = reached.node;
-    onward(walk, with_node(net, b, after), next)
 }
 
 // A forgery whose bytes stand in the schedule.
-fn forged(s: &[u8], walk: Walk, a: u8, b: u8, at: usize, count: usize, next: usize) -> Walk {
-    let net = walk.net;
-    let faulty = net.faulty;
-    let node = node_at(net, b);
+fn forged(s: &[u8], net: StoredNet, a: u8, b: u8, at: usize, count: usize) {
     let bytes = hex_bytes(s, at, count);
-    let reached = events::forge(node, faulty, a, b, part(&bytes, 0, count));
-    if reached.refusal != 0 {
-        return halt(walk, reached.refusal);
-    }
-    show_line(s, walk, next);
-    call::arrival_call(b, node, arrival_from(a, b, true), part(&bytes, 0, count));
-    let after = reached.node;
-    onward(walk, with_node(net, b, after), next)
+    call::arrival_call(
+        b,
+        node_at(net, b),
+        arrival_from(a, b, true),
+        part(&bytes, 0, count),
+    );
 }
 
-fn step(s: &[u8], walk: Walk) -> Walk {
-    let net = walk.net;
-    let here = walk.at;
+// The line that is next in the net, and what it does.
+fn show_event(s: &[u8], net: StoredNet) {
+    let here = net.at;
     match event_line(net.n, s, here) {
-        Line::Start { base, next } => started(s, walk, base, next),
+        Line::Start { base, next } => {
+            show_line(s, here, net.line, next);
+            call::start_call(base, node_at(net, base));
+        }
         Line::Carry {
             from,
             to,
             number,
             next,
-        } => carried(s, walk, from, to, number as usize, next),
+        } => {
+            show_line(s, here, net.line, next);
+            carried(net, from, to, number as usize);
+        }
         Line::Forge {
             from,
             to,
             at,
             count,
             next,
-        } => forged(s, walk, from, to, at, count, next),
-        Line::Wrong => halt(walk, FORM),
+        } => {
+            show_line(s, here, net.line, next);
+            forged(s, net, from, to, at, count);
+        }
+        Line::Wrong => {}
     }
 }
 
+fn step(s: &[u8], net: StoredNet) -> StoredNet {
+    let after = line_step(s, net);
+    if after.refusal == 0 {
+        show_event(s, net);
+    }
+    after
+}
+
 // Every event, up to the schedule's end or the first line that is refused.
-pub(crate) fn steps(s: &[u8], first: Walk) -> Walk {
-    let mut walk = first;
+pub(crate) fn steps(s: &[u8], first: StoredNet) -> StoredNet {
+    let mut net = first;
     let mut k: usize = 0;
     while k < s.len() {
         k += 1;
-        if walk.refusal != 0 {
-            return walk;
+        if net.refusal != 0 {
+            return net;
         }
-        if s.len() <= walk.at {
-            return walk;
+        if s.len() <= net.at {
+            return net;
         }
-        walk = step(s, walk);
+        net = step(s, net);
     }
-    walk
+    net
+}
+
+// How many messages the sender of the next line, a carry, has broadcast; 0 of any other line.
+pub(crate) fn sender_broadcasts(s: &[u8], net: StoredNet) -> usize {
+    let here = net.at;
+    let Line::Carry {
+        from,
+        to: _,
+        number: _,
+        next: _,
+    } = event_line(net.n, s, here)
+    else {
+        return 0;
+    };
+    let sender = node_at(net, from);
+    sender.count
 }

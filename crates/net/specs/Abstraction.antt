@@ -30,8 +30,12 @@ noNode = record { base = noBase; count = 0; frames = []; heard = [] }
 unfoldable pub nodeAt : StoredNet → ℕ → Node
 nodeAt w b = choose (inRange b mostBases) (getD (w .nodes) (b - 1) noNode) (emptyNode (w .n) (w .t))
 
+-- other nodes in their place
+abbrev pub withNodes : StoredNet → List Node → StoredNet
+withNodes w l = record { n = w .n; t = w .t; faulty = w .faulty; nodes = l; at = w .at; line = w .line; refusal = w .refusal }
+
 unfoldable pub withNode : StoredNet → ℕ → Node → StoredNet
-withNode w b v = choose (inRange b mostBases) (record { n = w .n; t = w .t; faulty = w .faulty; nodes = set (w .nodes) (b - 1) v }) w
+withNode w b v = choose (inRange b mostBases) (withNodes w (set (w .nodes) (b - 1) v)) w
 
 -- "The net's state is one record a base, each base's broadcasts, numbered from 1 in the order written, and the carries made."
 unfoldable pub netOf : StoredNet → Nets.Net

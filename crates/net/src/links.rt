@@ -2,7 +2,7 @@
 use crate::Faulty;
 use crate::FaultyLink;
 use crate::MOST_FAULTY;
-use crate::StoredNet;
+use limits::refusal::FAULTY_LINKS;
 ghost use mathlib.Core.Path.{_≡_};
 ghost use lib.ListN.{length};
 ghost use Prim.Native.Nat.{_≤_};
@@ -10,7 +10,7 @@ ghost use lib.Dec.{eqb};
 ghost use Rattle.lists.specs.Choice.{and};
 ghost use Rattle.protocol.specs.Net.{joins, good};
 ghost use Rattle.net.specs.Abstraction.{pairOf, pairsOf, faultyRoom};
-ghost use Rattle.net.specs.Header.{markedNet};
+ghost use Rattle.net.specs.Header.{noFaulty, markedFaulty};
 ghost use Rattle.schedule.specs.Header.{faultyRefusal};
 
 fn is_from(pair: FaultyLink, a: u8, b: u8) -> bool
@@ -61,24 +61,33 @@ pub fn faulty_refusal(faulty: Faulty, t: u8) -> u8
     ensures { λ r. ⌜ r ≡ faultyRefusal t (pairsOf faulty) ⌝ }
 {
     if (t as usize) <= named_faulty(faulty) {
-        return 15;
+        return FAULTY_LINKS;
     }
     0
 }
 
-// The net with the link between a and b named faulty.
-pub fn with_faulty(net: StoredNet, a: u8, b: u8) -> StoredNet
-    ensures { λ r. ⌜ r ≡ markedNet net a b ⌝ }
+// No link is named.
+pub fn no_faulty() -> Faulty
+    ensures { λ r. ⌜ r ≡ noFaulty ⌝ }
 {
-    let mut faulty = net.faulty;
+    let pair = FaultyLink { one: 0, other: 0 };
+    Faulty {
+        count: 0,
+        pairs: [pair; MOST_FAULTY],
+    }
+}
+
+// The link between a and b is named besides, while there is room.
+pub fn with_faulty(faulty: Faulty, a: u8, b: u8) -> Faulty
+    ensures { λ r. ⌜ r ≡ markedFaulty faulty a b ⌝ }
+{
     let count = faulty.count;
     if MOST_FAULTY <= count {
-        return net;
+        return faulty;
     }
     let pair = FaultyLink { one: a, other: b };
-    faulty.pairs[count] = pair;
-    faulty.count = count + 1;
-    let mut after = net;
-    after.faulty = faulty;
+    let mut after = faulty;
+    after.pairs[count] = pair;
+    after.count = count + 1;
     after
 }

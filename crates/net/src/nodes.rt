@@ -10,7 +10,8 @@ use protocol::Base;
 use soundness::idle::make_idle;
 ghost use mathlib.Core.Path.{_≡_};
 ghost use Rattle.protocol.specs.Sound.{idleBase};
-ghost use Rattle.net.specs.Abstraction.{emptyNode, nodeAt, withNode, netOf};
+ghost use Rattle.net.specs.Abstraction.{emptyNode, nodeAt};
+ghost use Rattle.net.specs.Header.{idleNode};
 
 // The record of an idle base. A base that has no identifier yet has zero.
 pub(crate) fn idle_base(n: u8, t: u8, own: u32) -> Base
@@ -41,6 +42,16 @@ pub(crate) fn empty_node(n: u8, t: u8) -> Node
     }
 }
 
+// A base that has the identifier v, idle, with no broadcast and no carry.
+pub(crate) fn idle_node(n: u8, t: u8, v: u32) -> Node
+    ensures { λ r. ⌜ r ≡ idleNode n t v ⌝ }
+{
+    let mut node = empty_node(n, t);
+    let base = idle_base(n, t, v);
+    node.base = base;
+    node
+}
+
 // Base b; for a number that no base has, one that is as at the beginning.
 pub fn node_at(net: StoredNet, b: u8) -> Node
     ensures { λ r. ⌜ r ≡ nodeAt net b ⌝ }
@@ -53,28 +64,4 @@ pub fn node_at(net: StoredNet, b: u8) -> Node
         return empty_node(net.n, net.t);
     }
     net.nodes[place - 1]
-}
-
-// The net with base b replaced.
-pub fn with_node(net: StoredNet, b: u8, node: Node) -> StoredNet
-    ensures { λ r. ⌜ r ≡ withNode net b node ⌝ }
-{
-    let at = b as usize;
-    if at < 1 {
-        return net;
-    }
-    if MOST_BASES < at {
-        return net;
-    }
-    let mut after = net;
-    after.nodes[at - 1] = node;
-    after
-}
-
-// The record of base b.
-pub fn base_of(net: StoredNet, b: u8) -> Base
-    ensures { λ r. ⌜ r ≡ netOf net .base b ⌝ }
-{
-    let node = node_at(net, b);
-    node.base
 }

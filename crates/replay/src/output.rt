@@ -1,7 +1,8 @@
 // The report in an output.
-use crate::state::ReplayState;
+use crate::line::line_step;
+use net::Header;
 use net::StoredNet;
-use net::nodes::base_of;
+use net::made::begun;
 use report::line::base_line;
 use report::line::refused_line;
 use report::line::waiting_line;
@@ -9,38 +10,51 @@ use waiting::waiting;
 ghost use mathlib.Core.Path.{_≡_};
 ghost use Prim.Native.Nat.{_+_, _*_, _≤_};
 ghost use lib.ListN.{length};
-ghost use Rattle.limits.specs.Limits.{mostBases};
+ghost use Rattle.limits.specs.Limits.{mostBases, longestSchedule};
 ghost use Rattle.print.specs.Put.{Put};
 ghost use Rattle.net.specs.Abstraction.{netOf};
+ghost use Rattle.net.specs.Header.{begunNet};
 ghost use Rattle.schedule.specs.Report.{lineRoom, reportRoom, baseLines};
-ghost use Rattle.replay.specs.State.{reportState};
+ghost use Rattle.schedule.specs.Walk.{nextLine, repeat};
+ghost use Rattle.stored_walk.specs.State.{reportNet, replaying};
 
 // One line a base, in order of number.
-fn put_bases(net: StoredNet, n: u8, out: &mut [u8]) -> usize
-    requires { ⌜ (n ≤ mostBases) × (reportRoom ≤ length (now out)) ⌝ }
-    ensures { λ r. ⌜ Put (now (out .entry)) 0 (baseLines n (netOf net)) (now (out .exit)) r ⌝ }
-    ensures { λ r. ⌜ r ≤ lineRoom * n ⌝ }
+fn put_bases(net: StoredNet, out: &mut [u8]) -> usize
+    requires { ⌜ (net .n ≤ mostBases) × (reportRoom ≤ length (now out)) ⌝ }
+    ensures { λ r. ⌜ Put (now (out .entry)) 0 (baseLines (net .n) (netOf net)) (now (out .exit)) r ⌝ }
+    ensures { λ r. ⌜ r ≤ lineRoom * (net .n) ⌝ }
 {
+    let n = net.n;
     let mut at: usize = 0;
     let mut b: u8 = 0;
     while b < n {
+        let node = net.nodes[b as usize];
+        let base = node.base;
         b += 1;
-        at = base_line(out, at, b, base_of(net, b));
+        at = base_line(out, at, b, base);
     }
     at
 }
 
-pub(crate) fn put_report(state: ReplayState, out: &mut [u8]) -> usize
-    requires { ⌜ reportRoom ≤ length (now out) ⌝ }
-    requires { ⌜ (state .refusal ≡ 0 → state .net .n ≤ mostBases) ⌝ }
-    ensures { λ r. ⌜ Put (now (out .entry)) 0 (reportState state) (now (out .exit)) r ⌝ }
+// Every line behind the header, up to the text's end or the first that is turned down, then the report. The net is not handed on, so
+// that no third one is held.
+pub(crate) fn put_report(s: &[u8], header: Header, out: &mut [u8]) -> usize
+    requires { ⌜ (header .line ≤ 600) × (header .refusal ≡ 0 → header .n ≤ mostBases) ⌝ }
+    requires { ⌜ (length (now s) ≤ longestSchedule) × (reportRoom ≤ length (now out)) ⌝ }
+    ensures { λ r. ⌜ Put (now (out .entry)) 0 (reportNet (repeat (length (now (s .entry))) (nextLine replaying (now (s .entry)))
+        (begunNet header))) (now (out .exit)) r ⌝ }
     ensures { λ r. ⌜ r ≤ reportRoom ⌝ }
 {
-    let refusal = state.refusal;
-    if refusal != 0 {
-        return refused_line(out, 0, refusal, state.line);
+    if header.refusal != 0 {
+        return refused_line(out, 0, header.refusal, header.line);
     }
-    let net = state.net;
-    let at = put_bases(net, net.n, out);
-    waiting_line(out, at, waiting(net))
+    let mut net = begun(header);
+    while net.at < s.len() {
+        net = line_step(s, net);
+        if net.refusal != 0 {
+            return refused_line(out, 0, net.refusal, net.line);
+        }
+    }
+    let end = put_bases(net, out);
+    waiting_line(out, end, waiting(net))
 }

@@ -49,7 +49,7 @@ use Rattle.node_calls.specs.Calls.Laws.{after-unchanged}
 use Rattle.node.specs.Node as Nodes
 use Rattle.node.specs.Node.Log.{frame-written}
 use Rattle.net.specs.declared.StoredNet.{StoredNet}
-use Rattle.net.specs.Abstraction.{noNode, emptyNode, nodeAt, withNode, netOf, faultyOf}
+use Rattle.net.specs.Abstraction.{noNode, emptyNode, nodeAt, withNode, withNodes, netOf, faultyOf}
 use Rattle.events.specs.declared.Reached.{Reached}
 use Rattle.events.specs.Events.{marks, after, carryRefusal, carryCall, carriedTo, forgedTo}
 
@@ -170,14 +170,9 @@ stored-self : (w : StoredNet) (b : ℕ) → withNode w b (nodeAt w b) ≡ w
 unfolding withNode nodeAt
 stored-self w b = go (inRange b mostBases)
   where
-    go : (t : Bool) → choose t (record {
-      n = w .n;
-      t = w .t;
-      faulty = w .faulty;
-      nodes = set (w .nodes) (b - 1) (choose t (getD (w .nodes) (b - 1) noNode) (emptyNode (w .n) (w .t)));
-    }) w ≡ w
-    go true = unfold choose in
-        ap (λ (l : List Node). record { n = w .n; t = w .t; faulty = w .faulty; nodes = l }) (set-self (w .nodes) (b - 1) noNode)
+    go : (t : Bool)
+        → choose t (withNodes w (set (w .nodes) (b - 1) (choose t (getD (w .nodes) (b - 1) noNode) (emptyNode (w .n) (w .t))))) w ≡ w
+    go true = unfold choose in ap (withNodes w) (set-self (w .nodes) (b - 1) noNode)
     go false = unfold choose in refl
 
 -- the base that an event reaches, as the event leaves it

@@ -6,7 +6,7 @@ use mathlib.Core.List.{List}
 use native.Mathlib.Omega.{arith}
 use borrow.Author.Tests.{eq-eqb, ne-eqb, le-leb, lt-leb}
 use lib.Dec.{eqb}
-use lib.ListN.{length}
+use lib.ListN.{length, getD}
 use Rattle.limits.specs.Limits.{mostBases}
 use Rattle.limits.specs.Refusals.{ownRefusal}
 use Rattle.limits.specs.Refusals.Laws.{own-passes}
@@ -17,7 +17,8 @@ use Rattle.protocol.specs.Sound.{settingRefusal, idleBase}
 use Rattle.protocol.specs.Net as Nets
 use Rattle.soundness.specs.declared.idle.Made.{Made}
 use Rattle.soundness.specs.Made.{madeOf}
-use Rattle.schedule.specs.Header.{owned, idRefusal, faultyRefusal}
+use Rattle.schedule.specs.Header.{faultyRefusal}
+use Rattle.net.specs.Header.{isNamed, idNumber}
 
 -- the record that a call which is turned down answers is idle too
 made-idle : madeOf 0 0 0 .base ≡ idleBase 0 0 0
@@ -57,27 +58,28 @@ module _ (t : ℕ) (faulty : List Nets.Pair) {r : ℕ} (e : r ≡ length faulty)
   few-enough h = chosen-no _ (lt-leb t (length faulty) (omega arith)) refl
 
 -- ---- identifiers
-module _ (W : Nets.Net) (v : ℕ) where
-  pub owned-here : (b : ℕ) → 0 < b → W .base b .own ≡ v → owned b W v ≡ true
-  unfolding owned
-  owned-here zero h e = absurd (omega arith)
-  owned-here (suc b) h e = or-first _ (eq-eqb (W .base (suc b) .own) v e)
+less : (b : ℕ) → b ≡ suc b - 1
+less b = omega arith
 
-  pub owned-below : (b : ℕ) → 0 < b → (W .base b .own ≡ v → ⊥) → owned b W v ≡ owned (b - 1) W v
-  unfolding owned or
-  owned-below zero h e = absurd (omega arith)
-  owned-below (suc b) h e = rw (ne-eqb (W .base (suc b) .own) v e, less b)
-    where
-      less : (b : ℕ) → suc b - 1 ≡ b
-      less b = omega arith
+module _ (ids : List ℕ) (v : ℕ) where
+  pub named-here : (b : ℕ) → 0 < b → getD ids (b - 1) 0 ≡ v → isNamed b ids v ≡ true
+  unfolding isNamed
+  named-here zero h e = absurd (omega arith)
+  named-here (suc b) h e = or-first _ (eq-eqb (getD ids b 0) v (ap (λ (i : ℕ). getD ids i 0) (less b) ∙ e))
 
-  pub owned-none : (b : ℕ) → b ≤ 0 → owned b W v ≡ false
-  unfolding owned
-  owned-none zero h = refl
-  owned-none (suc b) h = absurd (omega arith)
+  pub named-below : (b : ℕ) → 0 < b → (getD ids (b - 1) 0 ≡ v → ⊥) → isNamed b ids v ≡ isNamed (b - 1) ids v
+  unfolding isNamed or
+  named-below zero h e = absurd (omega arith)
+  named-below (suc b) h e =
+      rw (ne-eqb (getD ids b 0) v (λ q. e (ap (λ (i : ℕ). getD ids i 0) (sym (less b)) ∙ q))) (ap (λ (i : ℕ). isNamed i ids v) (less b))
 
-  pub no-identifier : v ≡ 0 → 3 ≡ idRefusal W v
-  unfolding idRefusal
+  pub named-none : (b : ℕ) → b ≤ 0 → isNamed b ids v ≡ false
+  unfolding isNamed
+  named-none zero h = refl
+  named-none (suc b) h = absurd (omega arith)
+
+  pub no-identifier : v ≡ 0 → 3 ≡ idNumber ids v
+  unfolding idNumber
   no-identifier e = let own = three e in sym (first-given _ (λ z. omega arith) ∙ own)
     where
       three : v ≡ 0 → ownRefusal v ≡ 3
@@ -87,10 +89,10 @@ module _ (W : Nets.Net) (v : ℕ) where
   some : (v ≡ 0 → ⊥) → ownRefusal v ≡ 0
   some n = own-passes (omega arith)
 
-  pub two-owners : (v ≡ 0 → ⊥) → {r : Bool} → r ≡ owned mostBases W v → r ≡ true → 14 ≡ idRefusal W v
-  unfolding idRefusal
+  pub two-owners : (v ≡ 0 → ⊥) → {r : Bool} → r ≡ isNamed mostBases ids v → r ≡ true → 14 ≡ idNumber ids v
+  unfolding idNumber
   two-owners n e y = sym (first-none _ (some n) ∙ choose-yes 14 0 (sym e ∙ y))
 
-  pub one-owner : (v ≡ 0 → ⊥) → {r : Bool} → r ≡ owned mostBases W v → r ≡ false → 0 ≡ idRefusal W v
-  unfolding idRefusal
+  pub one-owner : (v ≡ 0 → ⊥) → {r : Bool} → r ≡ isNamed mostBases ids v → r ≡ false → 0 ≡ idNumber ids v
+  unfolding idNumber
   one-owner n e y = sym (first-none _ (some n) ∙ choose-no 14 0 (sym e ∙ y))

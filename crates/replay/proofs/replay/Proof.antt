@@ -1,18 +1,19 @@
--- `replay::replay` meets its contract: what put_report puts at the output's front is the report of the schedule.
+-- `replay::replay` meets its contract: what is put at the output's front is the report of the schedule.
 use native.Mathlib.Omega.{arith}
 use borrow.Author.Needs.{needs}
-use mathlib.Core.Path.{_≡_, refl, sym, ap, _∙_, subst}
+use mathlib.Core.Path.{_≡_, refl, sym, subst}
 use borrow.Author.Tests.{lt-ltb, le-ltb}
 use Prim.Native.Nat.{_≤_}
 use denote.Ref.{now}
 use Rattle.limits.specs.Limits.{mostBases}
 use Rattle.lists.specs.Choice.Laws.{chosen-yes, chosen-no}
 use Rattle.frame.specs.Encoding.{over}
+use Rattle.net.specs.declared.StoredNet.{StoredNet}
+use Rattle.net.specs.Header.{begunNet}
 use Rattle.print.specs.Put.Laws.{put-as, put-front}
+use Rattle.report.specs.Laws.{line-there}
 use Rattle.schedule.specs.Report.{replayLength, replayOutput}
-use Rattle.replay.specs.declared.state.ReplayState.{ReplayState}
-use Rattle.replay.specs.State.{reportState}
-use Rattle.replay.specs.Follows.{state-few, report-is}
+use Rattle.stored_walk.specs.Follows.{header-few, long-report, lines-report}
 use Rattle.replay.proofs.replay.Statement.{statement}
 use Rattle.replay.proofs.replay.Tie as tie
 
@@ -20,34 +21,60 @@ returns : tie.Need-returns
 unfolding replayLength replayOutput
 returns c = let e = lt-ltb _ _ (c .if1 .taken) in (chosen-yes _ e refl, (chosen-yes _ e refl, omega arith))
 
-read-whole-requires : tie.Need-read-whole-requires
-read-whole-requires c κs = search needs
-
-put-report-requires : tie.Need-put-report-requires
-put-report-requires c κs = let s = now (c .before .before .before .before .before .args .schedule) in (
-  omega (arith, c .before .before .if1 .left),
-  subst (λ (p : ReplayState). p .refusal ≡ 0 → p .net .n ≤ mostBases) (sym (c .before .read-whole .ensures)) (state-few s),
-)
+refused-line-requires : tie.Need-refused-line-requires
+refused-line-requires c κs = search needs
 
 same-length : tie.Need-same-length
 same-length c = search needs
 
 returns-2 : tie.Need-returns-2
 unfolding replayLength replayOutput over
-returns-2 c = let s = now (c .before .before .before .before .before .before .before .before .args .schedule) in
-    let P = put-as (ap reportState (c .before .before .before .before .read-whole .ensures) ∙ report-is s)
-    (c .before .before .put-report .ensures .0) in
-    let e = le-ltb _ _ (c .before .before .before .before .before .if1 .left) in
-    let most = c .before .before .put-report .ensures .1 in
-    let f = put-front (omega (arith, P .past, most, c .before .before .before .before .before .if1 .left)) P in
-    (chosen-no _ e (f .0), (chosen-no _ e (f .1), omega (arith, most, c .before .before .before .before .before .if1 .left)))
+returns-2 c =
+    let s = now (c .before .before .before .before .before .before .before .before .args .schedule) in
+    let room = c .before .before .before .before .before .if1 .left in
+    let put = c .before .before .refused-line .ensures in
+    let P = put-as (long-report s (c .before .before .before .before .if2 .taken))
+    (line-there (omega (arith, room)) (put .0) (put .1 .0)) in
+    let f = put-front (omega (arith, P .past, put .1 .1, room)) P in
+    let e = le-ltb _ _ room in
+    (chosen-no _ e (f .0), (chosen-no _ e (f .1), omega (arith, put .1 .1, room)))
+
+read-header-requires : tie.Need-read-header-requires
+read-header-requires c κs = search needs
+
+put-report-requires : tie.Need-put-report-requires
+unfolding begunNet
+put-report-requires c κs =
+    let s = now (c .before .before .before .before .before .before .args .schedule) in
+    let h = c .before .read-header .ensures in (
+      (h .1, subst (λ (p : StoredNet). p .refusal ≡ 0 → p .n ≤ mostBases) (sym (h .0)) (header-few s)),
+      (c .before .before .if2 .left, omega (arith, c .before .before .before .if1 .left)),
+    )
+
+same-length-2 : tie.Need-same-length-2
+same-length-2 c = search needs
+
+returns-3 : tie.Need-returns-3
+unfolding replayLength replayOutput over
+returns-3 c =
+    let s = now (c .before .before .before .before .before .before .before .before .before .args .schedule) in
+    let room = c .before .before .before .before .before .before .if1 .left in
+    let put = c .before .before .put-report .ensures in
+    let P = put-as (lines-report s (c .before .before .before .before .before .if2 .left)
+    (c .before .before .before .before .read-header .ensures .0)) (put .0) in
+    let f = put-front (omega (arith, P .past, put .1, room)) P in
+    let e = le-ltb _ _ room in
+    (chosen-no _ e (f .0), (chosen-no _ e (f .1), omega (arith, put .1, room)))
 
 pub replay-spec : {M : Type 1} → statement M
 replay-spec =
     tie.close
     (tie.spec
     returns
-    read-whole-requires
-    put-report-requires
+    refused-line-requires
     same-length
-    returns-2)
+    returns-2
+    read-header-requires
+    put-report-requires
+    same-length-2
+    returns-3)

@@ -27,7 +27,7 @@ use Rattle.net.specs.declared.FaultyLink.{FaultyLink}
 use Rattle.net.specs.declared.Faulty.{Faulty}
 use Rattle.net.specs.Abstraction.{noNode, emptyNode, nodeAt, withNode, netOf, pairOf, pairsOf, faultyOf, faultyRoom, size}
 use Rattle.net.specs.Abstraction.Pairs.{noPair}
-use Rattle.net.specs.Header.{madeNet, namedNet, markedNet}
+use Rattle.net.specs.Header.{madeNet, namedNet, markedFaulty, markedNet}
 use Rattle.representation.specs.Represents.{Represents}
 use Rattle.representation.specs.Represents.Tables.{
   replaced-map,
@@ -56,32 +56,33 @@ nothing-heard n t x j =
     ∙ ap (and (inRange x mostBases)) (and-no (inRange j mostBroadcasts)) ∙ and-no (inRange x mostBases)
 
 -- ---- `net n t`
-made-node : (n t y : ℕ) → nodeAt (madeNet n t) y ≡ emptyNode n t
-unfolding nodeAt madeNet
-made-node n t y = choose-ind (λ (v : Node). v ≡ emptyNode n t) (inRange y mostBases)
-    (λ Y. let r = within-range y mostBases Y in getD-replicate mostBases (y - 1) (emptyNode n t) noNode (omega arith)) (λ _. refl)
+module _ (n t at line : ℕ) where
+  made-node : (y : ℕ) → nodeAt (madeNet n t at line) y ≡ emptyNode n t
+  unfolding nodeAt madeNet
+  made-node y = choose-ind (λ (v : Node). v ≡ emptyNode n t) (inRange y mostBases)
+      (λ Y. let r = within-range y mostBases Y in getD-replicate mostBases (y - 1) (emptyNode n t) noNode (omega arith)) (λ _. refl)
 
-pub represents-made : (n t : ℕ) → Represents (madeNet n t) n t [] (idleNet n t (λ b. 0))
-represents-made n t = record {
-  record-n = unfold madeNet in refl;
-  record-t = unfold madeNet in refl;
-  links = unfold faultyOf pairsOf madeNet in refl;
-  abstracts = unfold netOf idleNet in net-same _ _ base log carried;
-  sized = unfold madeNet in record {
-    nodes = length-replicate mostBases (emptyNode n t);
-    each = λ i h. subst SizedNode (sym (getD-replicate mostBases i (emptyNode n t) noNode h)) (empty-sized n t);
-    pairs = length-replicate faultyRoom noPair;
-  };
-}
-  where
-    base : (y : ℕ) → nodeAt (madeNet n t) y .base ≡ idleBase n t 0
-    base y = ap (λ (v : Node). v .base) (made-node n t y) ∙ (unfold emptyNode in refl)
+  pub represents-made : Represents (madeNet n t at line) n t [] (idleNet n t (λ b. 0))
+  represents-made = record {
+    record-n = unfold madeNet in refl;
+    record-t = unfold madeNet in refl;
+    links = unfold faultyOf pairsOf madeNet in refl;
+    abstracts = unfold netOf idleNet in net-same _ _ base log carried;
+    sized = unfold madeNet in record {
+      nodes = length-replicate mostBases (emptyNode n t);
+      each = λ i h. subst SizedNode (sym (getD-replicate mostBases i (emptyNode n t) noNode h)) (empty-sized n t);
+      pairs = length-replicate faultyRoom noPair;
+    };
+  }
+    where
+      base : (y : ℕ) → nodeAt (madeNet n t at line) y .base ≡ idleBase n t 0
+      base y = ap (λ (v : Node). v .base) (made-node y) ∙ (unfold emptyNode in refl)
 
-    log : (y : ℕ) → logOf (nodeAt (madeNet n t) y) ≡ []
-    log y = ap logOf (made-node n t y) ∙ (unfold logOf emptyNode in refl)
+      log : (y : ℕ) → logOf (nodeAt (madeNet n t at line) y) ≡ []
+      log y = ap logOf (made-node y) ∙ (unfold logOf emptyNode in refl)
 
-    carried : (x y j : ℕ) → heardBy (nodeAt (madeNet n t) y) x j ≡ false
-    carried x y j = ap (λ (v : Node). heardBy v x j) (made-node n t y) ∙ nothing-heard n t x j
+      carried : (x y j : ℕ) → heardBy (nodeAt (madeNet n t at line) y) x j ≡ false
+      carried x y j = ap (λ (v : Node). heardBy v x j) (made-node y) ∙ nothing-heard n t x j
 
 -- ---- `id b v`
 replaced-self : {A : Type 0} (b : ℕ) (f : ℕ → A) (a : A) → a ≡ f b → (y : ℕ) → replaced b a f y ≡ f y
@@ -140,18 +141,18 @@ map-snoc (q ∷ pairs) p = ap (λ (l : List Nets.Pair). pairOf q ∷ l) (map-sno
 pub represents-faulty : (a b : ℕ) {w : StoredNet} {n t : ℕ} {faulty : List Nets.Pair} {W : Nets.Net}
     → length faulty < faultyRoom → Represents w n t faulty W
     → Represents (markedNet w a b) n t (faulty ++ (record { one = a; other = b } ∷ [])) W
-represents-faulty a b {w} {n} {t} {faulty} {W} few S =
-    subst (λ (x : StoredNet). Represents x n t (faulty ++ (record { one = a; other = b } ∷ [])) W) (sym is) (record {
-      record-n = S .record-n;
-      record-t = S .record-t;
-      links = links ∙ ap (λ (l : List Nets.Pair). l ++ (record { one = a; other = b } ∷ [])) (S .links);
-      abstracts = same ∙ S .abstracts;
-      sized = record {
-        nodes = S .sized .nodes;
-        each = S .sized .each;
-        pairs = length-set (f .pairs) (f .count) (record { one = a; other = b }) ∙ S .sized .pairs;
-      };
-    })
+represents-faulty a b {w} {n} {t} {faulty} {W} few S = record {
+  record-n = S .record-n;
+  record-t = S .record-t;
+  links = links ∙ ap (λ (l : List Nets.Pair). l ++ (record { one = a; other = b } ∷ [])) (S .links);
+  abstracts = same ∙ S .abstracts;
+  sized = record {
+    nodes = S .sized .nodes;
+    each = S .sized .each;
+    pairs = ap (λ (x : Faulty). length (x .pairs)) is
+        ∙ length-set (f .pairs) (f .count) (record { one = a; other = b }) ∙ S .sized .pairs;
+  };
+}
   where
     f : Faulty
     f = w .faulty
@@ -173,17 +174,20 @@ represents-faulty a b {w} {n} {t} {faulty} {W} few S =
         named : length (faultyOf w) ≡ length (map pairOf (take (f .count) (f .pairs)))
         named = unfold faultyOf pairsOf in refl
 
-    is : markedNet w a b ≡ record { n = w .n; t = w .t; faulty = more; nodes = w .nodes }
-    is = unfold markedNet in choose-yes _ w (lt-ltb (f .count) faultyRoom count)
+    is : markedFaulty f a b ≡ more
+    is = unfold markedFaulty in choose-yes more f (lt-ltb (f .count) faultyRoom count)
 
-    same : netOf (record { n = w .n; t = w .t; faulty = more; nodes = w .nodes }) ≡ netOf w
+    same : netOf (markedNet w a b) ≡ netOf w
     same = unfold netOf nodeAt in refl
 
-    links : faultyOf (record { n = w .n; t = w .t; faulty = more; nodes = w .nodes }) ≡ faultyOf w ++ (record { one = a; other = b } ∷ [])
-    links = unfold faultyOf pairsOf in rw (add-one (f .count))
-        (ap (map pairOf) (take-suc-set (f .pairs) (f .count) (record { one = a; other = b }) (omega (arith, count, S .sized .pairs)))
-        ∙ map-snoc (take (f .count) (f .pairs)) (record { one = a; other = b })
-        ∙ (unfold pairOf in refl))
+    links : faultyOf (markedNet w a b) ≡ faultyOf w ++ (record { one = a; other = b } ∷ [])
+    links = unfold faultyOf in ap pairsOf is ∙ more-pairs
+      where
+        more-pairs : pairsOf more ≡ pairsOf f ++ (record { one = a; other = b } ∷ [])
+        more-pairs = unfold pairsOf in rw (add-one (f .count))
+            (ap (map pairOf) (take-suc-set (f .pairs) (f .count) (record { one = a; other = b }) (omega (arith, count, S .sized .pairs)))
+            ∙ map-snoc (take (f .count) (f .pairs)) (record { one = a; other = b })
+            ∙ (unfold pairOf in refl))
 
 -- ---- what is counted and printed of it
 pub represents-size : {w : StoredNet} {n t : ℕ} {faulty : List Nets.Pair} {W : Nets.Net}

@@ -20,7 +20,7 @@ use Rattle.node.specs.Node.{inRange}
 use Rattle.node.specs.Node.Memory.{SizedNode}
 use Rattle.node.specs.Node.Within.{within-range}
 use Rattle.net.specs.declared.StoredNet.{StoredNet}
-use Rattle.net.specs.Abstraction.{noNode, nodeAt, withNode, emptyNode, faultyOf}
+use Rattle.net.specs.Abstraction.{noNode, nodeAt, withNode, withNodes, emptyNode, faultyOf}
 use Rattle.representation.specs.Represents.{SizedNet}
 
 -- ---- tables
@@ -48,7 +48,7 @@ net-same U W b l c =
 
 -- ---- a base is replaced
 module _ (w : StoredNet) (b : ℕ) (v : Node) (B : inRange b mostBases ≡ true) where
-  pub with-node-is : withNode w b v ≡ record { n = w .n; t = w .t; faulty = w .faulty; nodes = set (w .nodes) (b - 1) v }
+  pub with-node-is : withNode w b v ≡ withNodes w (set (w .nodes) (b - 1) v)
   unfolding withNode
   with-node-is = choose-yes _ _ B
 
@@ -56,7 +56,7 @@ module _ (w : StoredNet) (b : ℕ) (v : Node) (B : inRange b mostBases ≡ true)
   range = within-range b mostBases B
 
   replaced-node : length (w .nodes) ≡ mostBases → (y : ℕ)
-      → nodeAt (record { n = w .n; t = w .t; faulty = w .faulty; nodes = set (w .nodes) (b - 1) v }) y ≡ replaced b v (nodeAt w) y
+      → nodeAt (withNodes w (set (w .nodes) (b - 1) v)) y ≡ replaced b v (nodeAt w) y
   unfolding nodeAt
   replaced-node Z y = elim (ℕ-discrete y b) [
     | yes p ↦ rw p (choose-yes _ _ B

@@ -6,10 +6,10 @@ use Rattle.hilltrace.proofs.event.steps.Statement.{statement}
 use Rattle.hilltrace.proofs.event.steps.Tie as tie
 
 abbrev Inv-loop : tie.InvT-loop
-Inv-loop s walk₀ k₀ walk k = k ≤ length s
+Inv-loop s net₀ k₀ net k = k ≤ length s
 
 abbrev μ-loop : tie.MeasureT-loop
-μ-loop s walk₀ k₀ walk k = length s - k
+μ-loop s net₀ k₀ net k = length s - k
 
 loop-holds : tie.Need-loop-holds Inv-loop μ-loop
 loop-holds c = search needs

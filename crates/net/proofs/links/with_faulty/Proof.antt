@@ -2,13 +2,13 @@
 use mathlib.Core.Path.{refl}
 use borrow.Author.Tests.{lt-ltb, le-ltb}
 use Rattle.lists.specs.Choice.Laws.{chosen-yes, chosen-no}
-use Rattle.net.specs.Header.{markedNet}
+use Rattle.net.specs.Header.{markedFaulty}
 use borrow.Author.Needs.{needs}
 use Rattle.net.proofs.links.with_faulty.Statement.{statement}
 use Rattle.net.proofs.links.with_faulty.Tie as tie
 
 returns : tie.Need-returns
-unfolding markedNet
+unfolding markedFaulty
 returns c = chosen-no _ (le-ltb _ _ (c .if1 .taken)) refl
 
 mul-pair : tie.Need-mul-pair
@@ -17,12 +17,12 @@ mul-pair c = search needs
 element-set-from-pair : tie.Need-element-set-from-pair
 element-set-from-pair c = search needs
 
-add-faulty : tie.Need-add-faulty
-add-faulty c = search needs
+add-after : tie.Need-add-after
+add-after c = search needs
 
 returns-2 : tie.Need-returns-2
-unfolding markedNet
+unfolding markedFaulty
 returns-2 c = chosen-yes _ (lt-ltb _ _ (c .if1 .left)) refl
 
 pub with-faulty-spec : {M : Type 1} → statement M
-with-faulty-spec = tie.close (tie.spec returns mul-pair element-set-from-pair add-faulty returns-2)
+with-faulty-spec = tie.close (tie.spec returns mul-pair element-set-from-pair add-after returns-2)

@@ -1,7 +1,7 @@
 -- `replay::output::put_bases` meets its contract. Invariant: the lines of the bases 1 to b are put.
 use native.Mathlib.Omega.{arith}
 use borrow.Author.Needs.{needs}
-use Prim.Native.Nat.{ℕ, _+_, _*_, _-_, _≤_}
+use Prim.Native.Nat.{ℕ, suc, _+_, _*_, _-_, _≤_}
 use mathlib.Core.Path.{_≡_, refl, sym, ap, _∙_, subst}
 use mathlib.Core.List.{_++_}
 use lib.ListN.{length}
@@ -11,24 +11,31 @@ use Rattle.protocol.specs.declared.Base.{Base}
 use Rattle.net.specs.Abstraction.{netOf}
 use Rattle.schedule.specs.Report.{lineRoom, baseLine, baseLines}
 use Rattle.report.specs.Laws.{line-there, bases-none, bases-more}
+use Rattle.stored_walk.specs.Turn.{base-there}
 use Rattle.replay.proofs.output.put_bases.Statement.{statement}
 use Rattle.replay.proofs.output.put_bases.Tie as tie
 
 abbrev Inv-loop : tie.InvT-loop
-Inv-loop net n out₀ at₀ b₀ out at b =
+Inv-loop out₀ net n at₀ b₀ out at b =
     (b ≤ n) × ((at ≤ lineRoom * b) × ((length out ≡ length out₀) × Put out₀ 0 (baseLines b (netOf net)) out at))
 
 abbrev μ-loop : tie.MeasureT-loop
-μ-loop net n out₀ at₀ b₀ out at b = n - b
+μ-loop out₀ net n at₀ b₀ out at b = n - b
 
 loop-holds : tie.Need-loop-holds Inv-loop μ-loop
-loop-holds c = (omega arith, (omega arith, (refl, put-as (sym (bases-none (netOf (c .before .args .net)))) (put-none _ _))))
+loop-holds c = (omega arith, (omega arith, (refl, put-as (sym (bases-none _)) (put-none _ _))))
+
+cast-node : tie.Need-cast-node Inv-loop μ-loop
+cast-node c = search needs
+
+mul-node : tie.Need-mul-node Inv-loop μ-loop
+mul-node c = search needs
+
+element-copy-out-node : tie.Need-element-copy-out-node Inv-loop μ-loop
+element-copy-out-node c = search needs
 
 add-b : tie.Need-add-b Inv-loop μ-loop
 add-b c = omega arith
-
-base-of-requires : tie.Need-base-of-requires Inv-loop μ-loop
-base-of-requires c κs = search needs
 
 base-line-requires : tie.Need-base-line-requires Inv-loop μ-loop
 base-line-requires c κs = search needs
@@ -37,24 +44,20 @@ loop-less : tie.Need-loop-less Inv-loop μ-loop
 loop-less c = omega arith
 
 loop-again : tie.Need-loop-again Inv-loop μ-loop
-loop-again c = let I = c .before .before .before .before .before .before .loop .inv in
-    let P = line-there (omega (
-      arith,
-      I .1 .0,
-      I .1 .1 .0,
-      c .before .before .before .before .before .before .before .before .pre .0,
-      c .before .before .before .before .before .before .before .before .pre .1,
-      c .before .before .before .before .before .loop-test .taken,
-    ))
+loop-again c =
+    let l = c .before .before .before .before .before .before .before .loop in
+    let a = c .before .before .before .before .before .before .before .before .before in
+    let I = l .inv in
+    let less = c .before .before .before .before .before .before .loop-test .taken in
+    let P = line-there (omega (arith, I .1 .0, I .1 .1 .0, a .pre .0, a .pre .1, less))
     (c .before .before .base-line .ensures .0) (c .before .before .base-line .ensures .1 .0) in (
-      omega arith,
+      omega (arith, less),
       (
         omega (arith, I .1 .0, c .before .before .base-line .ensures .1 .1),
         (
           c .before .before .base-line .kept .0 ∙ I .1 .1 .0,
-          put-as (ap (λ (x : Base). baseLines (c .before .before .before .before .before .before .loop .b)
-              (netOf (c .before .before .before .before .before .before .before .before .args .net)) ++ baseLine
-              (c .before .before .before .before .before .before .loop .b + 1) x) (c .before .before .before .base-of .ensures)
+          put-as (ap (λ (x : Base). baseLines (l .b) (netOf (a .args .t1)) ++ baseLine (l .b + 1) x)
+              (base-there (a .args .t1) (l .b) (omega (arith, less, a .pre .0)))
               ∙ bases-more _ _) (put-then (I .1 .1 .1) P),
         ),
       ),
@@ -65,8 +68,9 @@ same-length c = c .before .loop .inv .1 .1 .0
 
 returns : tie.Need-returns Inv-loop μ-loop
 returns c =
-    let e : c .before .loop .b ≡ c .before .before .before .args .n = omega (arith, c .before .loop .inv .0, c .loop-test .left) in (
-      put-as (ap (λ (k : ℕ). baseLines k (netOf (c .before .before .before .args .net))) e) (c .before .loop .inv .1 .1 .1),
+    let n = c .before .before .before .args .t1 .n in
+    let e : c .before .loop .b ≡ n = omega (arith, c .before .loop .inv .0, c .loop-test .left) in (
+      put-as (ap (λ (k : ℕ). baseLines k (netOf (c .before .before .before .args .t1))) e) (c .before .loop .inv .1 .1 .1),
       subst (λ (k : ℕ). c .before .loop .at ≤ lineRoom * k) e (c .before .loop .inv .1 .0),
     )
 
@@ -77,8 +81,10 @@ put-bases-spec =
     Inv-loop
     μ-loop
     loop-holds
+    cast-node
+    mul-node
+    element-copy-out-node
     add-b
-    base-of-requires
     base-line-requires
     loop-less
     loop-again

@@ -1,0 +1,175 @@
+// The lines of events.
+use events::Reached;
+use hexadecimal::hex_bytes;
+use limits::MOST_BASES;
+use limits::refusal::FORM;
+use lines::event::Line;
+use lines::event::event_line;
+use net::Faulty;
+use net::StoredNet;
+use node::Node;
+ghost use mathlib.Core.Path.{_≡_};
+ghost use Prim.Native.Nat.{_≤_, _<_, _*_};
+ghost use lib.ListN.{length, drop};
+ghost use Rattle.limits.specs.Limits.{mostBases, longestForgery};
+ghost use Rattle.hexadecimal.specs.Hex.{hexBytes};
+ghost use Rattle.net.specs.Abstraction.{pairsOf};
+ghost use Rattle.events.specs.Events.{forgedTo};
+ghost use Rattle.stored_walk.specs.State.{HasBytes, nextOf, lineAfter, goesOn};
+ghost use Rattle.stored_walk.specs.Turn.{senderOf, receiverOf, nodePlace, reachedBy};
+
+// A line's number has a next one.
+const MOST_LINES: usize = 18446744073709551614;
+
+// A forgery whose bytes stand in the schedule.
+fn forge_bytes(
+    s: &[u8],
+    receiver: Node,
+    faulty: Faulty,
+    a: u8,
+    b: u8,
+    at: usize,
+    count: usize,
+) -> Reached
+    requires { ⌜ (count ≤ longestForgery) × (2 * count ≤ length (drop at (now s))) ⌝ }
+    ensures { λ r. ⌜ r ≡ forgedTo receiver (pairsOf faulty) a b (hexBytes count (drop at (now (s .entry)))) ⌝ }
+{
+    let bytes = hex_bytes(s, at, count);
+    events::forge(receiver, faulty, a, b, &bytes[..count])
+}
+
+// What a line does to the base that it reaches, beside the number by which the line is turned down.
+fn happen(s: &[u8], sender: Node, receiver: Node, faulty: Faulty, line: Line) -> Reached
+    requires { ⌜ HasBytes (now s) line ⌝ }
+    ensures { λ r. ⌜ r ≡ reachedBy (now (s .entry)) sender receiver (pairsOf faulty) line ⌝ }
+{
+    match line {
+        Line::Start { base: _, next: _ } => {
+            let told = node_calls::start(receiver);
+            let node = told.node;
+            Reached { refusal: 0, node }
+        }
+        Line::Carry {
+            from,
+            to,
+            number,
+            next: _,
+        } => events::carry(sender, receiver, faulty, from, to, number as usize),
+        Line::Forge {
+            from,
+            to,
+            at,
+            count,
+            next: _,
+        } => forge_bytes(s, receiver, faulty, from, to, at, count),
+        Line::Wrong => Reached {
+            refusal: FORM,
+            node: receiver,
+        },
+    }
+}
+
+// Where base b stands in the net.
+fn place_of(b: u8) -> usize
+    ensures { λ r. ⌜ (r ≡ nodePlace b) × (r < mostBases) ⌝ }
+{
+    let number = b as usize;
+    if number < 1 {
+        return 0;
+    }
+    if MOST_BASES < number {
+        return 0;
+    }
+    number - 1
+}
+
+// Where the base stands that sends, where the one that is reached, and where the line behind begins.
+struct Places {
+    from: usize,
+    to: usize,
+    next: usize,
+}
+
+fn places_of(line: Line) -> Places
+    ensures { λ r. ⌜ (r .from ≡ nodePlace (senderOf line)) × (r .from < mostBases) ⌝ }
+    ensures { λ r. ⌜ (r .to ≡ nodePlace (receiverOf line)) × (r .to < mostBases) ⌝ }
+    ensures { λ r. ⌜ r .next ≡ nextOf line ⌝ }
+{
+    match line {
+        Line::Start { base, next } => Places {
+            from: place_of(base),
+            to: place_of(base),
+            next,
+        },
+        Line::Carry {
+            from,
+            to,
+            number: _,
+            next,
+        } => Places {
+            from: place_of(from),
+            to: place_of(to),
+            next,
+        },
+        Line::Forge {
+            from,
+            to,
+            at: _,
+            count: _,
+            next,
+        } => Places {
+            from: place_of(from),
+            to: place_of(to),
+            next,
+        },
+        Line::Wrong => Places {
+            from: place_of(0),
+            to: place_of(0),
+            next: 0,
+        },
+    }
+}
+
+// Whether there is a line more in a text of that length.
+fn goes_on(length: usize, n: u8, at: usize, line: usize, refusal: u8) -> bool
+    ensures { λ r. ⌜ r ≡ goesOn length n at line refusal ⌝ }
+{
+    if refusal != 0 {
+        return false;
+    }
+    if length <= at {
+        return false;
+    }
+    if MOST_BASES < (n as usize) {
+        return false;
+    }
+    line <= MOST_LINES
+}
+
+// The next line, on the net of the lines before it: the base that it reaches is stored, or the line is turned down.
+pub fn line_step(s: &[u8], net: StoredNet) -> StoredNet
+    ensures { λ r. ⌜ r ≡ lineAfter (now (s .entry)) net ⌝ }
+{
+    let mut after = net;
+    if !goes_on(s.len(), after.n, after.at, after.line, after.refusal) {
+        return after;
+    }
+    let at = after.at;
+    let line = event_line(after.n, s, at);
+    let places = places_of(line);
+    let from = places.from;
+    let to = places.to;
+    let sender = after.nodes[from];
+    let receiver = after.nodes[to];
+    let faulty = after.faulty;
+    let reached = happen(s, sender, receiver, faulty, line);
+    if reached.refusal != 0 {
+        after.refusal = reached.refusal;
+        return after;
+    }
+    let node = reached.node;
+    after.nodes[to] = node;
+    after.at = places.next;
+    after.line = after.line + 1;
+    after
+}
