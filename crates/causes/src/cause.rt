@@ -1,95 +1,52 @@
-// The causes of numbers 1 to 3 and 14 to 18.
-use crate::RefusedLine;
-use crate::alike::first_alike;
-use crate::forms::NET;
-use crate::line::line_at;
-use crate::line::value;
-use crate::tell;
-use limits::refusal;
-use output::text;
+// A cause: a sentence and what is put into it.
+use crate::sentences::NONE;
 
-// (n - 2) / 2, rounded down
-fn most_faulty(n: usize) -> usize {
-    if n < 2 {
-        return 0;
-    }
-    (n - 2) / 2
+pub(crate) struct Cause {
+    // Its row.
+    pub sentence: u8,
+    pub number: usize,
+    pub other: usize,
+    // A field of the line.
+    pub field: usize,
+    // A part of the line.
+    pub from: usize,
+    pub len: usize,
 }
 
-fn bases(line: &[u8]) {
-    tell::field_is(NET, line, 1);
-    text(b"\n");
+pub(crate) fn said(sentence: u8) -> Cause {
+    counted(sentence, 0)
 }
 
-fn faulty_limit(line: &[u8]) {
-    let n = value(line, 1);
-    tell::field_is(NET, line, 2);
-    text(b", and ");
-    output::number(most_faulty(n));
-    text(b" is the limit of ");
-    output::number(n);
-    text(b" bases\n");
-}
-
-// The line of base b is line b + 1.
-fn same_identifier(s: &[u8], at: usize) {
-    let first = first_alike(s, at, 2);
-    if 1 < first {
-        tell::with_number(b"line ", first, b" has it for another base");
+pub(crate) fn counted(sentence: u8, number: usize) -> Cause {
+    Cause {
+        sentence,
+        number,
+        other: 0,
+        field: 0,
+        from: 0,
+        len: 0,
     }
 }
 
-fn good_link(line: &[u8]) {
-    let a = value(line, 1);
-    let b = value(line, 2);
-    text(b"  the header has no line `faulty ");
-    if a < b {
-        output::number(a);
-        text(b" ");
-        output::number(b);
-    } else {
-        output::number(b);
-        text(b" ");
-        output::number(a);
-    }
-    text(b"`\n");
+pub(crate) fn both(sentence: u8, number: usize, other: usize) -> Cause {
+    let mut cause = counted(sentence, number);
+    cause.other = other;
+    cause
 }
 
-fn not_broadcast(line: &[u8], broadcasts: usize) {
-    text(b"  up to here base ");
-    output::number(value(line, 1));
-    text(b" has broadcast ");
-    tell::counted(broadcasts, b" message");
-    text(b"\n");
+pub(crate) fn of_field(sentence: u8, i: usize, number: usize) -> Cause {
+    let mut cause = counted(sentence, number);
+    cause.field = i;
+    cause
 }
 
-fn event(s: &[u8], line: &[u8], refused: RefusedLine) {
-    let number = refused.refusal;
-    match number {
-        refusal::FAULTY_LINKS => tell::with_number(
-            b"t is ",
-            refused.t,
-            b", and so many are named before it",
-        ),
-        refusal::NOT_BROADCAST => not_broadcast(line, refused.broadcasts),
-        refusal::CARRIED_BEFORE => tell::with_number(
-            b"line ",
-            first_alike(s, refused.at, 0),
-            b" is that carry",
-        ),
-        _ => good_link(line),
-    }
+pub(crate) fn of_part(sentence: u8, number: usize, from: usize, len: usize) -> Cause {
+    let mut cause = counted(sentence, number);
+    cause.from = from;
+    cause.len = len;
+    cause
 }
 
-pub(crate) fn cause(s: &[u8], refused: RefusedLine) {
-    let at = refused.at;
-    let line = line_at(s, at);
-    let number = refused.refusal;
-    match number {
-        refusal::BASES => bases(line),
-        refusal::FAULTY_LIMIT => faulty_limit(line),
-        refusal::OWN_IDENTIFIER => tell::cause(b"an identifier is above zero"),
-        refusal::SAME_IDENTIFIER => same_identifier(s, at),
-        _ => event(s, line, refused),
-    }
+pub(crate) fn none() -> Cause {
+    said(NONE)
 }

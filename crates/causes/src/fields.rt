@@ -1,10 +1,19 @@
-// The fields of a line whose word stands in its place. Each test tells what it finds and answers whether it found something.
+// The fields of a line whose word stands in its place.
 use crate::RefusedLine;
 use crate::alike::first_alike;
 use crate::bytes::NO_DIGIT;
 use crate::bytes::NO_HEX_DIGIT;
+use crate::bytes::SPACE;
+use crate::bytes::behind;
 use crate::bytes::place_of;
 use crate::bytes::spaces;
+use crate::cause::Cause;
+use crate::cause::both;
+use crate::cause::counted;
+use crate::cause::none;
+use crate::cause::of_field;
+use crate::cause::of_part;
+use crate::cause::said;
 use crate::forms::CARRY;
 use crate::forms::FAULTY;
 use crate::forms::FORGE;
@@ -12,155 +21,39 @@ use crate::forms::ID;
 use crate::forms::NET;
 use crate::forms::START;
 use crate::forms::asked;
-use crate::forms::form;
 use crate::line::field;
 use crate::line::value;
-use crate::tell;
+use crate::sentences;
+use crate::sentences::NONE;
 use limits::LONGEST_FORGERY;
-use output::number;
-use output::parts::part;
 use output::parts::plus;
-use output::text;
-use output::visible;
 use text::number::Number;
 use text::number::number_at;
 
-// Both bases stand there, so that the third field alone is missing.
-fn only_hex_missing(line: &[u8], n: usize) -> bool {
-    if !is_base(line, 1, n) {
-        return false;
-    }
-    is_base(line, 2, n)
-}
-
-fn space_before_hex(kind: u8, line: &[u8], n: usize) {
-    if kind != FORGE {
-        return;
-    }
-    if spaces(line) != 2 {
-        return;
-    }
-    if only_hex_missing(line, n) {
-        tell::cause(b"the space before hex stands even where there are no bytes");
-    }
-}
-
-// So many fields as the form asks.
-fn number_of_fields(kind: u8, line: &[u8], n: usize) -> bool {
-    let count = spaces(line);
-    if count == asked(kind) {
-        return false;
-    }
-    text(b"  the form is ");
-    form(kind);
-    text(b", and the line has ");
-    tell::counted(count, b" field");
-    text(b" behind its word\n");
-    space_before_hex(kind, line, n);
-    true
-}
-
 // What keeps a field from being a decimal number without leading zeros, at most 4,294,967,295.
-const NOTHING: u8 = 0;
-
-const NO_NUMBER: u8 = 1;
-
-const TOO_LARGE: u8 = 2;
-
-const LEADING_ZERO: u8 = 3;
-
 fn number_fault(bytes: &[u8]) -> u8 {
     if bytes.len() == 0 {
-        return NO_NUMBER;
+        return sentences::NO_DECIMAL;
     }
     if place_of(bytes, NO_DIGIT) < bytes.len() {
-        return NO_NUMBER;
+        return sentences::NO_DECIMAL;
     }
     let Number::Value(_, next) = number_at(bytes, 0) else {
-        return TOO_LARGE;
+        return sentences::TOO_LARGE;
     };
     if next == bytes.len() {
-        return NOTHING;
+        return NONE;
     }
-    LEADING_ZERO
+    sentences::LEADING_ZERO
 }
 
-fn decimal(kind: u8, line: &[u8], i: usize) -> bool {
-    let fault = number_fault(field(line, i));
-    if fault == NOTHING {
-        return false;
-    }
-    tell::field_is(kind, line, i);
-    match fault {
-        NO_NUMBER => text(b", which is no decimal number\n"),
-        TOO_LARGE => text(b", above 4,294,967,295\n"),
-        _ => text(b", with a leading zero\n"),
-    }
-    true
-}
-
-fn no_hex_digit(digits: &[u8], place: usize) {
-    text(b"  digit ");
-    number(plus(place, 1));
-    text(b" of hex is ");
-    visible(part(digits, place, 1));
-    text(b", not 0 to 9 or a to f\n");
-}
-
-fn too_many_bytes(count: usize) {
-    text(b"  hex has ");
-    number(count);
-    text(b" bytes, and ");
-    number(LONGEST_FORGERY);
-    text(b" are the most\n");
-}
-
-// Two digits a byte, small letters, as many as a line can forge.
-fn hex(line: &[u8]) -> bool {
-    let digits = field(line, 3);
-    let place = place_of(digits, NO_HEX_DIGIT);
-    if place < digits.len() {
-        no_hex_digit(digits, place);
-        return true;
-    }
-    if digits.len() % 2 == 1 {
-        text(b"  hex has ");
-        tell::counted(digits.len(), b" digit");
-        text(b", and a byte has two\n");
-        return true;
-    }
-    if digits.len() / 2 <= LONGEST_FORGERY {
-        return false;
-    }
-    too_many_bytes(digits.len() / 2);
-    true
-}
-
-fn third(kind: u8, line: &[u8]) -> bool {
-    match kind {
-        CARRY => decimal(kind, line, 3),
-        FORGE => hex(line),
-        _ => false,
-    }
-}
-
-// Each field by itself.
-fn each(kind: u8, line: &[u8]) -> bool {
-    if decimal(kind, line, 1) {
-        return true;
-    }
-    if kind == START {
-        return false;
-    }
-    if decimal(kind, line, 2) {
-        return true;
-    }
-    third(kind, line)
+fn decimal(line: &[u8], i: usize) -> Cause {
+    of_field(number_fault(field(line, i)), i, 0)
 }
 
 // A base of the net.
 fn is_base(line: &[u8], i: usize, n: usize) -> bool {
-    if number_fault(field(line, i)) != NOTHING {
+    if number_fault(field(line, i)) != NONE {
         return false;
     }
     let b = value(line, i);
@@ -170,80 +63,132 @@ fn is_base(line: &[u8], i: usize, n: usize) -> bool {
     false
 }
 
-fn base(kind: u8, line: &[u8], i: usize, n: usize) -> bool {
-    if is_base(line, i, n) {
+// Both bases stand there, so that of a forgery the bytes alone are missing, with their space.
+pub(crate) fn only_hex_missing(kind: u8, line: &[u8], n: usize) -> bool {
+    if kind != FORGE {
         return false;
     }
-    tell::field_is(kind, line, i);
-    text(b", and the net has bases 1 to ");
-    number(n);
-    text(b"\n");
-    true
-}
-
-// Two different bases of the net.
-fn bases(kind: u8, line: &[u8], n: usize) -> bool {
-    if base(kind, line, 1, n) {
-        return true;
+    if spaces(line) != 2 {
+        return false;
     }
-    if base(kind, line, 2, n) {
-        return true;
-    }
-    if value(line, 1) == value(line, 2) {
-        tell::cause(b"a and b are the same base");
-        return true;
+    if is_base(line, 1, n) {
+        return is_base(line, 2, n);
     }
     false
 }
 
-fn carry(line: &[u8], n: usize) -> bool {
-    if bases(CARRY, line, n) {
-        return true;
+// Two digits a byte, small letters, as many as a line can forge.
+fn hex(line: &[u8]) -> Cause {
+    let digits = field(line, 3);
+    let place = place_of(digits, NO_HEX_DIGIT);
+    if place < digits.len() {
+        let at = plus(behind(line, SPACE, 3), place);
+        return of_part(sentences::NO_HEX_DIGIT, plus(place, 1), at, 1);
     }
-    tell::cause(b"k is 0, and broadcasts are numbered from 1");
-    true
+    if digits.len() % 2 == 1 {
+        return counted(sentences::ODD_DIGITS, digits.len());
+    }
+    if digits.len() / 2 <= LONGEST_FORGERY {
+        return none();
+    }
+    both(sentences::TOO_MANY_BYTES, digits.len() / 2, LONGEST_FORGERY)
 }
 
-fn faulty(s: &[u8], line: &[u8], refused: RefusedLine) -> bool {
-    if bases(FAULTY, line, refused.n) {
-        return true;
+fn third(kind: u8, line: &[u8]) -> Cause {
+    match kind {
+        CARRY => decimal(line, 3),
+        FORGE => hex(line),
+        _ => none(),
+    }
+}
+
+fn second(kind: u8, line: &[u8]) -> Cause {
+    if kind == START {
+        return none();
+    }
+    let cause = decimal(line, 2);
+    if cause.sentence != NONE {
+        return cause;
+    }
+    third(kind, line)
+}
+
+// Each field by itself.
+fn each(kind: u8, line: &[u8]) -> Cause {
+    let cause = decimal(line, 1);
+    if cause.sentence != NONE {
+        return cause;
+    }
+    second(kind, line)
+}
+
+fn base(line: &[u8], i: usize, n: usize) -> Cause {
+    if is_base(line, i, n) {
+        return none();
+    }
+    of_field(sentences::NO_BASE, i, n)
+}
+
+// Two different bases of the net.
+fn bases(line: &[u8], n: usize) -> Cause {
+    if !is_base(line, 1, n) {
+        return base(line, 1, n);
+    }
+    if !is_base(line, 2, n) {
+        return base(line, 2, n);
+    }
+    if value(line, 1) == value(line, 2) {
+        return said(sentences::SAME_BASE);
+    }
+    none()
+}
+
+fn carry(line: &[u8], n: usize) -> Cause {
+    let cause = bases(line, n);
+    if cause.sentence != NONE {
+        return cause;
+    }
+    said(sentences::NUMBER_ZERO)
+}
+
+fn faulty(s: &[u8], line: &[u8], refused: RefusedLine) -> Cause {
+    let cause = bases(line, refused.n);
+    if cause.sentence != NONE {
+        return cause;
     }
     if value(line, 2) < value(line, 1) {
-        tell::cause(b"a is above b, and the smaller base comes first");
-        return true;
+        return said(sentences::LARGER_FIRST);
     }
-    tell::with_number(b"line ", first_alike(s, refused.at, 0), b" names that link");
-    true
+    counted(sentences::LINK_AGAIN, first_alike(s, refused.at, 0))
 }
 
-fn id(line: &[u8], number: usize) -> bool {
-    tell::field_is(ID, line, 1);
-    if 1 < number {
-        text(b", and this is the line of base ");
-        output::number(number - 1);
+fn id(number: usize) -> Cause {
+    if number < 1 {
+        return none();
     }
-    text(b"\n");
-    true
+    of_field(sentences::OTHER_BASE, 1, number - 1)
 }
 
 // The fields together, and held against the net.
-fn together(kind: u8, s: &[u8], line: &[u8], refused: RefusedLine) -> bool {
+fn together(kind: u8, s: &[u8], line: &[u8], refused: RefusedLine) -> Cause {
     match kind {
-        NET => false,
-        ID => id(line, refused.number),
+        NET => none(),
+        ID => id(refused.number),
         FAULTY => faulty(s, line, refused),
-        START => base(kind, line, 1, refused.n),
+        START => base(line, 1, refused.n),
         CARRY => carry(line, refused.n),
-        _ => bases(kind, line, refused.n),
+        _ => bases(line, refused.n),
     }
 }
 
-pub(crate) fn fields(kind: u8, s: &[u8], line: &[u8], refused: RefusedLine) -> bool {
-    if number_of_fields(kind, line, refused.n) {
-        return true;
+pub(crate) fn fields(kind: u8, s: &[u8], line: &[u8], refused: RefusedLine) -> Cause {
+    let count = spaces(line);
+    if count != asked(kind) {
+        return counted(sentences::FIELD_COUNT, count);
     }
-    if each(kind, line) {
-        return true;
+    let cause = each(kind, line);
+    if cause.sentence != NONE {
+        return cause;
     }
     together(kind, s, line, refused)
 }

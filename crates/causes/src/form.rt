@@ -1,35 +1,35 @@
 // Number 13: what breaks a line's form. It is looked for in the bytes first, then in the spaces, the word and the fields.
 use crate::RefusedLine;
 use crate::bytes::NOT_PRINTING;
+use crate::bytes::SPACE;
 use crate::bytes::place_of;
 use crate::bytes::spaces;
 use crate::bytes::two_spaces;
+use crate::cause::Cause;
+use crate::cause::counted;
+use crate::cause::none;
+use crate::cause::of_part;
+use crate::cause::said;
 use crate::fields::fields;
 use crate::forms::FAULTY;
 use crate::forms::ID;
 use crate::forms::NET;
-use crate::forms::kind_of;
 use crate::line::begins;
-use crate::line::field;
-use crate::line::line_at;
-use crate::tell;
+use crate::sentences;
+use crate::sentences::NONE;
 use limits::LONGEST_SCHEDULE;
-use output::number;
 use output::parts::part;
 use output::parts::plus;
-use output::text;
-use output::visible;
 
 // The line of the header that belongs here.
-fn belongs(line: RefusedLine) {
+pub(crate) fn belongs(line: RefusedLine) -> Cause {
     if line.n == 0 {
-        return tell::cause(b"the first line is `net n t`");
+        return said(sentences::FIRST_LINE);
     }
-    text(b"  here belongs the line of base ");
-    if 1 < line.number {
-        number(line.number - 1);
+    if line.number < 1 {
+        return none();
     }
-    text(b", `id b v`\n");
+    counted(sentences::BELONGS, line.number - 1)
 }
 
 fn is_in_header(line: RefusedLine) -> bool {
@@ -39,32 +39,15 @@ fn is_in_header(line: RefusedLine) -> bool {
     line.number <= plus(line.n, 1)
 }
 
-fn missing(line: RefusedLine) {
-    tell::cause(b"the schedule ends before it");
-    belongs(line);
-}
-
-fn odd_byte(line: &[u8], place: usize) {
-    text(b"  byte ");
-    number(plus(place, 1));
-    text(b" is ");
-    visible(part(line, place, 1));
-    text(b", which stands in no line\n");
-}
-
 // A carriage return at that place of a line.
-fn carriage_return(line: &[u8], place: usize, ended: bool) {
+fn carriage_return(line: &[u8], place: usize, ended: bool) -> Cause {
     if plus(place, 1) < line.len() {
-        return tell::with_number(
-            b"byte ",
-            plus(place, 1),
-            b" is a carriage return (\\r), and only a line feed ends a line",
-        );
+        return counted(sentences::CARRIAGE_RETURN_WITHIN, plus(place, 1));
     }
     if ended {
-        return tell::cause(b"a carriage return (\\r) stands before the line feed");
+        return said(sentences::CARRIAGE_RETURN_BEFORE);
     }
-    tell::cause(b"a carriage return (\\r) stands at the end, and no line feed")
+    said(sentences::CARRIAGE_RETURN_LAST)
 }
 
 // The beginning of a text in UTF-16, by its byte-order mark or by its first letter.
@@ -82,33 +65,34 @@ fn is_utf_16(line: &[u8]) -> bool {
 }
 
 // What an editor puts before a text, or makes of it.
-fn encoding(line: &[u8]) -> bool {
+fn encoding(line: &[u8]) -> Cause {
     if begins(line, b"\xef\xbb\xbf") {
-        tell::cause(b"a byte-order mark (\\xef\\xbb\\xbf) stands at the beginning");
-        return true;
+        return said(sentences::BYTE_ORDER_MARK);
     }
     if is_utf_16(line) {
-        tell::cause(b"the text is in UTF-16, and each sign of a line is one byte");
-        return true;
+        return said(sentences::UTF_16);
     }
-    false
+    none()
+}
+
+fn odd_byte(line: &[u8], place: usize, ended: bool) -> Cause {
+    if begins(part(line, place, 1), b"\r") {
+        return carriage_return(line, place, ended);
+    }
+    of_part(sentences::ODD_BYTE, plus(place, 1), place, 1)
 }
 
 // A byte that does not print. The line feed stands behind the line, or else the schedule ends with it.
-fn odd_bytes(line: &[u8], ended: bool) -> bool {
+fn odd_bytes(line: &[u8], ended: bool) -> Cause {
     let place = place_of(line, NOT_PRINTING);
     if line.len() <= place {
-        return false;
+        return none();
     }
-    if encoding(line) {
-        return true;
+    let cause = encoding(line);
+    if cause.sentence != NONE {
+        return cause;
     }
-    if line[place] == b'\r' {
-        carriage_return(line, place, ended);
-        return true;
-    }
-    odd_byte(line, place);
-    true
+    odd_byte(line, place, ended)
 }
 
 // Behind `forge a b ` there may be nothing.
@@ -125,111 +109,99 @@ fn space_at_the_end(line: &[u8]) -> bool {
     true
 }
 
-fn odd_spaces(line: &[u8]) -> bool {
+fn odd_spaces(line: &[u8]) -> Cause {
     let place = two_spaces(line);
     if begins(line, b" ") {
-        tell::cause(b"a space stands at the beginning");
-        return true;
+        return said(sentences::SPACE_FIRST);
     }
     if place < line.len() {
-        tell::with_number(
-            b"byte ",
-            plus(place, 1),
-            b" is a second space, and one separates two words",
-        );
-        return true;
+        return counted(sentences::SECOND_SPACE, plus(place, 1));
     }
     if space_at_the_end(line) {
-        tell::cause(b"a space stands at the end");
-        return true;
+        return said(sentences::SPACE_LAST);
     }
-    false
+    none()
 }
 
-fn unknown(line: &[u8]) -> bool {
+fn unknown(line: &[u8]) -> Cause {
     if line.len() == 0 {
-        tell::cause(b"the line is empty");
-        return true;
+        return said(sentences::EMPTY);
     }
-    text(b"  there is no word ");
-    tell::cut(field(line, 0));
-    text(b", only net, id, faulty, start, carry and forge\n");
-    true
+    of_part(sentences::NO_WORD, 0, 0, place_of(line, SPACE))
 }
 
-fn behind_the_header(kind: u8, line: RefusedLine) -> bool {
-    match kind {
-        NET => {
-            tell::cause(b"the net is named in line 1");
-            true
-        }
-        ID => {
-            tell::with_number(b"each of the ", line.n, b" bases has its line `id b v`");
-            true
-        }
-        FAULTY => is_behind_an_event(line),
-        _ => false,
-    }
-}
-
-fn is_behind_an_event(line: RefusedLine) -> bool {
+fn late_faulty(line: RefusedLine) -> Cause {
     if line.number <= plus(plus(line.n, line.faulty), 2) {
-        return false;
+        return none();
     }
-    tell::cause(b"faulty links are named before the first event");
-    true
+    said(sentences::FAULTY_LATE)
+}
+
+fn behind_the_header(kind: u8, line: RefusedLine) -> Cause {
+    match kind {
+        NET => said(sentences::NET_AGAIN),
+        ID => counted(sentences::ID_AGAIN, line.n),
+        FAULTY => late_faulty(line),
+        _ => none(),
+    }
+}
+
+// The word of the header's line.
+fn wanted(line: RefusedLine) -> u8 {
+    if line.n == 0 {
+        return NET;
+    }
+    ID
 }
 
 // A word that there is not, or that stands in another place.
-fn misplaced(kind: u8, line: RefusedLine) -> bool {
+fn misplaced(kind: u8, line: RefusedLine) -> Cause {
     if !is_in_header(line) {
         return behind_the_header(kind, line);
     }
-    let mut wanted = ID;
-    if line.n == 0 {
-        wanted = NET;
+    if kind == wanted(line) {
+        return none();
     }
-    if kind == wanted {
-        return false;
-    }
-    belongs(line);
-    true
+    belongs(line)
 }
 
-fn words(s: &[u8], line: &[u8], refused: RefusedLine) {
-    let kind = kind_of(line);
+fn words(kind: u8, s: &[u8], line: &[u8], refused: RefusedLine) -> Cause {
     if kind == 0 {
-        unknown(line);
-        return;
+        return unknown(line);
     }
-    if misplaced(kind, refused) {
-        return;
+    let cause = misplaced(kind, refused);
+    if cause.sentence != NONE {
+        return cause;
     }
-    fields(kind, s, line, refused);
+    fields(kind, s, line, refused)
 }
 
-fn broken(s: &[u8], line: &[u8], refused: RefusedLine) {
-    let at = refused.at;
-    let ended = plus(at, line.len()) < s.len();
-    if odd_bytes(line, ended) {
-        return;
+fn ended_line(kind: u8, s: &[u8], line: &[u8], refused: RefusedLine) -> Cause {
+    let cause = odd_spaces(line);
+    if cause.sentence != NONE {
+        return cause;
+    }
+    words(kind, s, line, refused)
+}
+
+fn broken(kind: u8, s: &[u8], line: &[u8], refused: RefusedLine) -> Cause {
+    let ended = plus(refused.at, line.len()) < s.len();
+    let cause = odd_bytes(line, ended);
+    if cause.sentence != NONE {
+        return cause;
     }
     if !ended {
-        return tell::cause(b"no line feed stands at the end");
+        return said(sentences::NO_LINE_FEED);
     }
-    if odd_spaces(line) {
-        return;
-    }
-    words(s, line, refused)
+    ended_line(kind, s, line, refused)
 }
 
-pub(crate) fn form(s: &[u8], refused: RefusedLine) {
+pub(crate) fn form_cause(kind: u8, s: &[u8], line: &[u8], refused: RefusedLine) -> Cause {
     if LONGEST_SCHEDULE < s.len() {
-        return tell::cause(b"the schedule has more than 65,536 bytes");
+        return said(sentences::TOO_LONG);
     }
-    let at = refused.at;
-    if s.len() <= at {
-        return missing(refused);
+    if s.len() <= refused.at {
+        return said(sentences::ENDS_BEFORE);
     }
-    broken(s, line_at(s, at), refused)
+    broken(kind, s, line, refused)
 }

@@ -8,10 +8,25 @@ mod form;
 mod forms;
 mod line;
 mod meanings;
+mod numbers;
+mod sentences;
 mod tell;
 
+use crate::cause::Cause;
+use crate::cause::none;
+use crate::cause::said;
+use crate::fields::only_hex_missing;
+use crate::form::belongs;
+use crate::form::form_cause;
+use crate::forms::kind_of;
 use crate::line::line_at;
 use crate::meanings::meaning;
+use crate::numbers::number_cause;
+use crate::sentences::ENDS_BEFORE;
+use crate::sentences::FIELD_COUNT;
+use crate::sentences::SPACE_BEFORE_HEX;
+use crate::tell::cut;
+use crate::tell::tell;
 use limits::refusal::FORM;
 use output::number;
 use output::text;
@@ -37,19 +52,42 @@ pub fn refused(number: u8) {
     text(b"\n");
 }
 
-pub fn explain(s: &[u8], line: RefusedLine) {
-    let at = line.at;
-    text(b"line ");
-    number(line.number);
-    text(b": ");
-    tell::cut(line_at(s, at));
-    text(b"\n  refused by ");
-    number(line.refusal as usize);
-    text(b", ");
-    refused(line.refusal);
-    if line.refusal == FORM {
-        form::form(s, line);
-    } else {
-        cause::cause(s, line);
+fn cause_of(kind: u8, s: &[u8], line: &[u8], refused: RefusedLine) -> Cause {
+    if refused.refusal == FORM {
+        return form_cause(kind, s, line, refused);
     }
+    number_cause(s, line, refused)
+}
+
+fn hint(kind: u8, line: &[u8], n: usize) -> Cause {
+    if only_hex_missing(kind, line, n) {
+        return said(SPACE_BEFORE_HEX);
+    }
+    none()
+}
+
+// What is told behind a cause.
+fn further(sentence: u8, kind: u8, line: &[u8], refused: RefusedLine) -> Cause {
+    match sentence {
+        ENDS_BEFORE => belongs(refused),
+        FIELD_COUNT => hint(kind, line, refused.n),
+        _ => none(),
+    }
+}
+
+pub fn explain(s: &[u8], refused: RefusedLine) {
+    let line = line_at(s, refused.at);
+    let kind = kind_of(line);
+    text(b"line ");
+    number(refused.number);
+    text(b": ");
+    cut(line);
+    text(b"\n  refused by ");
+    number(refused.refusal as usize);
+    text(b", ");
+    meaning(refused.refusal);
+    text(b"\n");
+    let cause = cause_of(kind, s, line, refused);
+    tell(cause, kind, line);
+    tell(further(cause.sentence, kind, line, refused), kind, line);
 }

@@ -1,6 +1,11 @@
-// Pieces of a cause.
+// A cause, told.
+use crate::cause::Cause;
+use crate::forms::form;
 use crate::forms::name;
 use crate::line::field;
+use crate::line::row;
+use crate::sentences::NONE;
+use crate::sentences::SENTENCES;
 use limits::LONGEST_SCHEDULE;
 use output::number;
 use output::parts::part;
@@ -28,35 +33,46 @@ pub(crate) fn cut(bytes: &[u8]) {
     }
 }
 
-// So many of a thing: `1 field`, `2 fields`.
-pub(crate) fn counted(v: usize, thing: &[u8]) {
-    number(v);
-    text(thing);
-    if v != 1 {
+// `1 field`, `2 fields`
+fn plural(count: usize) {
+    if count != 1 {
         text(b"s");
     }
 }
 
-// A sentence.
-pub(crate) fn cause(words: &[u8]) {
-    text(b"  ");
-    text(words);
-    text(b"\n");
-}
-
-// A number within a sentence, and the sentence's end.
-pub(crate) fn with_number(words: &[u8], v: usize, end: &[u8]) {
-    text(b"  ");
-    text(words);
-    number(v);
-    text(end);
-    text(b"\n");
-}
-
-// A field by its name and as it stands.
-pub(crate) fn field_is(kind: u8, line: &[u8], i: usize) {
-    text(b"  ");
+fn field_is(kind: u8, line: &[u8], i: usize) {
     name(kind, i);
     text(b" is ");
     cut(field(line, i));
+}
+
+// What a byte of a sentence stands for, or else the byte itself.
+fn put(sign: u8, cause: Cause, kind: u8, line: &[u8]) {
+    match sign {
+        b'#' => number(cause.number),
+        b'&' => number(cause.other),
+        b'~' => plural(cause.number),
+        b'@' => field_is(kind, line, cause.field),
+        b'%' => cut(part(line, cause.from, cause.len)),
+        b'$' => form(kind),
+        _ => text(&[sign]),
+    }
+}
+
+fn sentence(words: &[u8], cause: Cause, kind: u8, line: &[u8]) {
+    let mut i: usize = 0;
+    while i < words.len() {
+        put(words[i], cause, kind, line);
+        i += 1;
+    }
+}
+
+// A line of its own; nothing where there is no cause to name.
+pub(crate) fn tell(cause: Cause, kind: u8, line: &[u8]) {
+    if cause.sentence == NONE {
+        return;
+    }
+    text(b"  ");
+    sentence(row(&SENTENCES, cause.sentence as usize), cause, kind, line);
+    text(b"\n");
 }
