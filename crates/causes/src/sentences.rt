@@ -1,5 +1,5 @@
-// The sentences that tell a cause, a row each. In a row `#` and `&` stand for a cause's numbers, `~` for the plural of what the first counts,
-// `@` for a field by its name and as it stands, `%` for a part of the line, and `$` for the form of its kind.
+// The sentences that tell a cause, a row each. In a row `#` and `&` stand for a cause's numbers, `~` for the plural of what the first
+// counts, `@` for a field by its name and as it stands, `%` for a part of the line, and `$` for the form of its kind.
 pub(crate) const SENTENCES: [u8; 1555] = *b"
 the schedule has more than 65,536 bytes
 the schedule ends before it
