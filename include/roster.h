@@ -58,9 +58,9 @@ extern "C" {
 /* The most stack that a call takes, in bytes, with what its answer takes in the caller, and besides what memcpy and memset take.
  * tests/figures measures it and holds it to this. */
 #define ROSTER_STACK_IDLE 5000
-#define ROSTER_STACK_START 10000
+#define ROSTER_STACK_START 9000
 #define ROSTER_STACK_ARRIVE 15000
-#define ROSTER_STACK_LEADER 10000
+#define ROSTER_STACK_LEADER 8000
 #define ROSTER_STACK_READ 1000
 #define ROSTER_STACK_WRITE 1000
 #define ROSTER_STACK_REPLAY 420000

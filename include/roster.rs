@@ -22,9 +22,9 @@ pub const REPORT_ROOM: usize = (MOST_BASES + 1) * LINE_ROOM;
 
 /// The most stack that a call takes, in bytes.
 pub const STACK_IDLE: usize = 5000;
-pub const STACK_START: usize = 10000;
+pub const STACK_START: usize = 9000;
 pub const STACK_ARRIVE: usize = 15000;
-pub const STACK_LEADER: usize = 10000;
+pub const STACK_LEADER: usize = 8000;
 pub const STACK_READ: usize = 1000;
 pub const STACK_WRITE: usize = 1000;
 pub const STACK_REPLAY: usize = 420000;
