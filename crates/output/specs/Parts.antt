@@ -22,10 +22,6 @@ lastPlace = 18446744073709551615
 abbrev pub placeBehind : ℕ → ℕ → ℕ
 placeBehind at by = min (at + by) lastPlace
 
--- a number, or the largest byte
-abbrev pub byteOf : ℕ → ℕ
-byteOf v = min v 255
-
 -- a space and the signs of ASCII
 unfoldable pub printing : ℕ → Bool
 printing b = and (leb 32 b) (leb b 126)

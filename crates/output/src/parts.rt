@@ -1,6 +1,6 @@
 // Parts of slices and sums of places, for any numbers.
 ghost use mathlib.Core.Path.{_≡_};
-ghost use Rattle.output.specs.Parts.{partOf, lineLength, placeBehind, byteOf};
+ghost use Rattle.output.specs.Parts.{partOf, lineLength, placeBehind};
 
 const LAST_PLACE: usize = 18446744073709551615;
 
@@ -36,13 +36,4 @@ pub fn plus(at: usize, by: usize) -> usize
         return LAST_PLACE;
     }
     at + by
-}
-
-pub fn byte(v: u32) -> u8
-    ensures { λ r. ⌜ r ≡ byteOf v ⌝ }
-{
-    if 255 < v {
-        return 255;
-    }
-    v as u8
 }
