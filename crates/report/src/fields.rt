@@ -1,11 +1,12 @@
 // The parts of a base's line.
 use leader::leader_of;
 use limits::MOST_BASES;
+use lists::least;
 use print::put_decimal;
 use print::put_text;
 use protocol::Base;
 ghost use mathlib.Core.Path.{_≡_};
-ghost use Prim.Native.Nat.{_+_, _*_, _≤_, min};
+ghost use Prim.Native.Nat.{_+_, _*_, _≤_};
 ghost use mathlib.Core.List.{_∷_, _++_};
 ghost use Rattle.protocol.specs.Record.{finalList};
 ghost use lib.ListN.{length};
@@ -51,17 +52,6 @@ fn put_final(out: &mut [u8], at: usize, ids: &[u32]) -> usize
     put_decimal(out, second, leader_of(ids) as u64)
 }
 
-// The identifiers of a list: n, and no more than there is room for.
-fn size_of(n: u8) -> usize
-    ensures { λ r. ⌜ r ≡ min n mostBases ⌝ }
-{
-    let n = n as usize;
-    if MOST_BASES < n {
-        return MOST_BASES;
-    }
-    n
-}
-
 // A word, and the final list of a base behind it.
 fn put_stopped(out: &mut [u8], at: usize, word: &[u8], base: Base) -> usize
     requires { ⌜ at + length (now word) + 11 * mostBases + 18 ≤ length (now out) ⌝ }
@@ -69,7 +59,7 @@ fn put_stopped(out: &mut [u8], at: usize, word: &[u8], base: Base) -> usize
     ensures { λ r. ⌜ r ≤ at + length (now (word .entry)) + 11 * mostBases + 18 ⌝ }
 {
     let list = base.final_list;
-    let count = size_of(base.n);
+    let count = least(base.n as usize, MOST_BASES);
     let end = put_text(out, at, word);
     put_final(out, end, &list[..count])
 }

@@ -1,12 +1,13 @@
 // What waits: broadcasts and bases at the other end of a good link to which they were not carried.
 use limits::MOST_BASES;
+use lists::least;
 use net::Faulty;
 use net::StoredNet;
 use net::links::is_good;
 use node::Node;
 use node::log::broadcasts;
 use node::marks::unheard;
-ghost use Prim.Native.Nat.{suc, _≤_, _<_, _*_, min};
+ghost use Prim.Native.Nat.{suc, _≤_, _<_, _*_};
 ghost use mathlib.Core.Path.{_≡_};
 ghost use Rattle.limits.specs.Limits.{mostBases};
 ghost use Rattle.counting.specs.Sums.{sum};
@@ -29,24 +30,13 @@ fn waiting_between(sender: Node, receiver: Node, faulty: Faulty, a: u8, b: u8) -
     unheard(receiver, a, broadcasts(sender))
 }
 
-// The bases of the net: n, and no more than there is room for.
-fn size_of(n: u8) -> usize
-    ensures { λ r. ⌜ r ≡ min n mostBases ⌝ }
-{
-    let n = n as usize;
-    if MOST_BASES < n {
-        return MOST_BASES;
-    }
-    n
-}
-
 // Broadcasts of the base at place a that wait.
 fn waiting_from(net: StoredNet, a: usize) -> usize
     requires { ⌜ a < mostBases ⌝ }
     ensures { λ r.
         ⌜ (r ≡ sum (size net) (λ b. waitingFrom (faultyOf net) (netOf net) (suc a) (suc b))) × (r ≤ mostBases * mostBroadcasts) ⌝ }
 {
-    let n = size_of(net.n);
+    let n = least(net.n as usize, MOST_BASES);
     let sender = net.nodes[a];
     let faulty = net.faulty;
     let mut total: usize = 0;
@@ -63,7 +53,7 @@ fn waiting_from(net: StoredNet, a: usize) -> usize
 pub fn waiting(net: StoredNet) -> usize
     ensures { λ r. ⌜ r ≡ Nets.waiting (size net) (faultyOf net) (netOf net) ⌝ }
 {
-    let n = size_of(net.n);
+    let n = least(net.n as usize, MOST_BASES);
     let mut total: usize = 0;
     let mut a: usize = 0;
     while a < n {

@@ -20,12 +20,15 @@ Inv-loop net n total₀ a₀ total a = (a ≤ n) × (n ≡ size net) × (n ≤ m
 abbrev μ-loop : tie.MeasureT-loop
 μ-loop net n total₀ a₀ total a = n - a
 
-size-of-requires : tie.Need-size-of-requires Inv-loop μ-loop
-size-of-requires c κs = search needs
+cast-least : tie.Need-cast-least Inv-loop μ-loop
+cast-least c = search needs
+
+least-requires : tie.Need-least-requires Inv-loop μ-loop
+least-requires c κs = search needs
 
 loop-holds : tie.Need-loop-holds Inv-loop μ-loop
 unfolding size
-loop-holds c = (omega arith, c .size-of .ensures, omega (arith, c .size-of .ensures), omega arith, (unfold sum in refl))
+loop-holds c = (omega arith, c .least .ensures, omega (arith, c .least .ensures), omega arith, (unfold sum in refl))
 
 waiting-from-requires : tie.Need-waiting-from-requires Inv-loop μ-loop
 waiting-from-requires c κs = search needs
@@ -49,7 +52,7 @@ returns : tie.Need-returns Inv-loop μ-loop
 unfolding Nets.waiting
 returns c =
     let I = c .before .loop .inv in
-    let e : c .before .loop .a ≡ size (c .before .before .before .args .net) = omega (arith, I .0, I .1, c .loop-test .left) in
+    let e : c .before .loop .a ≡ size (c .before .before .before .before .args .net) = omega (arith, I .0, I .1, c .loop-test .left) in
     I .4 ∙ rw e
 
 pub waiting-spec : {M : Type 1} → statement M
@@ -58,7 +61,8 @@ waiting-spec =
     (tie.spec
     Inv-loop
     μ-loop
-    size-of-requires
+    cast-least
+    least-requires
     loop-holds
     waiting-from-requires
     add-total

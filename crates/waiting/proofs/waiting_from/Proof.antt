@@ -22,8 +22,11 @@ abbrev μ-loop : tie.MeasureT-loop
 here : (c : tie.In-loop Inv-loop μ-loop) → c .before .loop .b < mostBases
 here c = omega (arith, c .before .loop .inv .2, c .loop-test .taken)
 
-size-of-requires : tie.Need-size-of-requires Inv-loop μ-loop
-size-of-requires c κs = search needs
+cast-least : tie.Need-cast-least Inv-loop μ-loop
+cast-least c = search needs
+
+least-requires : tie.Need-least-requires Inv-loop μ-loop
+least-requires c κs = search needs
 
 mul-sender : tie.Need-mul-sender Inv-loop μ-loop
 mul-sender c = search needs
@@ -35,8 +38,8 @@ loop-holds : tie.Need-loop-holds Inv-loop μ-loop
 unfolding size
 loop-holds c = (
   omega arith,
-  c .before .before .size-of .ensures,
-  omega (arith, c .before .before .size-of .ensures),
+  c .before .before .least .ensures,
+  omega (arith, c .before .before .least .ensures),
   omega arith,
   (unfold sum in refl),
 )
@@ -96,7 +99,8 @@ waiting-from-spec =
     (tie.spec
     Inv-loop
     μ-loop
-    size-of-requires
+    cast-least
+    least-requires
     mul-sender
     element-copy-out-sender
     loop-holds

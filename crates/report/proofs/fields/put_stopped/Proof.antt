@@ -16,24 +16,27 @@ use Rattle.report.specs.Laws.{take-least}
 use Rattle.report.proofs.fields.put_stopped.Statement.{statement}
 use Rattle.report.proofs.fields.put_stopped.Tie as tie
 
-sized : (c : tie.After-size-of) → length (c .before .before .before .before .args .base .«final_list») ≡ mostBases
-sized c = base-sized (c .before .before .before .before .args .base) _ (c .before .before .before .before .good .1 .1 .1 .0) .final
+sized : (c : tie.After-least) → length (c .before .before .before .before .before .args .base .«final_list») ≡ mostBases
+sized c = base-sized (c .before .before .before .before .before .args .base) _ (c .before .before .before .before .before .good .1 .1 .1 .0) .final
 
-room : (c : tie.After-size-of) → c .size-of .result ≤ length (c .before .before .before .before .args .base .«final_list»)
-room c = omega (arith, sized c, c .size-of .ensures)
+room : (c : tie.After-least) → c .least .result ≤ length (c .before .before .before .before .before .args .base .«final_list»)
+room c = omega (arith, sized c, c .least .ensures)
 
-count-is : (c : tie.After-size-of)
-    → length (take (c .size-of .result) (c .before .before .before .before .args .base .«final_list»)) ≡ c .size-of .result
-count-is c = length-take-le (c .size-of .result) (c .before .before .before .before .args .base .«final_list») (room c)
+count-is : (c : tie.After-least)
+    → length (take (c .least .result) (c .before .before .before .before .before .args .base .«final_list»)) ≡ c .least .result
+count-is c = length-take-le (c .least .result) (c .before .before .before .before .before .args .base .«final_list») (room c)
 
-list-is : (c : tie.After-size-of) → take (c .size-of .result) (c .before .before .before .before .args .base .«final_list»)
-    ≡ finalList (c .before .before .before .before .args .base)
+list-is : (c : tie.After-least) → take (c .least .result) (c .before .before .before .before .before .args .base .«final_list»)
+    ≡ finalList (c .before .before .before .before .before .args .base)
 unfolding finalList
-list-is c = take-least (c .before .before .before .before .args .base .n)
-    (c .size-of .result) mostBases (c .before .before .before .before .args .base .«final_list») (sized c) (c .size-of .ensures)
+list-is c = take-least (c .before .before .before .before .before .args .base .n)
+    (c .least .result) mostBases (c .before .before .before .before .before .args .base .«final_list») (sized c) (c .least .ensures)
 
-size-of-requires : tie.Need-size-of-requires
-size-of-requires c κs = search needs
+cast-least : tie.Need-cast-least
+cast-least c = search needs
+
+least-requires : tie.Need-least-requires
+least-requires c κs = search needs
 
 put-text-requires : tie.Need-put-text-requires
 put-text-requires c κs = search needs
@@ -48,7 +51,7 @@ put-final-requires : tie.Need-put-final-requires
 put-final-requires c κs = omega (
   arith,
   count-is (c .before .before .before .before .before .before),
-  c .before .before .before .before .before .before .size-of .ensures,
+  c .before .before .before .before .before .before .least .ensures,
   (put-fits (omega arith)
       (c .before .before .before .before .put-text .ensures .0) (c .before .before .before .before .put-text .ensures .1)) .past,
 )
@@ -60,14 +63,14 @@ returns : tie.Need-returns
 returns c = let A = put-fits (omega arith) (c .before .before .before .before .before .before .before .put-text .ensures .0)
     (c .before .before .before .before .before .before .before .put-text .ensures .1) in (
       put-as (ap (λ (l : List ℕ).
-          now (c .before .before .before .before .before .before .before .before .before .before .before .before .before .args .word)
+          now (c .before .before .before .before .before .before .before .before .before .before .before .before .before .before .args .word)
           ++ finalText l) (list-is (c .before .before .before .before .before .before .before .before .before)))
           (put-then A (c .before .before .put-final .ensures .0)),
       omega (
         arith,
         A .past,
         count-is (c .before .before .before .before .before .before .before .before .before),
-        c .before .before .before .before .before .before .before .before .before .size-of .ensures,
+        c .before .before .before .before .before .before .before .before .before .least .ensures,
         c .before .before .put-final .ensures .1,
       ),
     )
@@ -76,7 +79,8 @@ pub put-stopped-spec : {M : Type 1} → statement M
 put-stopped-spec =
     tie.close
     (tie.spec
-    size-of-requires
+    cast-least
+    least-requires
     put-text-requires
     array-share-prefix-list
     slice-aggregate-put-final
