@@ -19,7 +19,15 @@ ghost use mathlib.Core.Path.{_≡_};
 ghost use Prim.Native.Nat.{suc, _+_, _≤_};
 ghost use Rattle.net.specs.Header.{madeNet, begunNet};
 ghost use Rattle.schedule.specs.Walk.{netStep, idStep, idSteps, markStep, faultyStep, repeat, headerWalk};
-ghost use Rattle.stored_walk.specs.State.{mostLines, replaying, unreadNet, refusedNet, onwardHeader};
+ghost use Rattle.stored_walk.specs.State.{
+  mostLines,
+  mostNamedLine,
+  mostHeaderLine,
+  replaying,
+  unreadNet,
+  refusedNet,
+  onwardHeader,
+};
 
 // No base has an identifier yet, and no link is faulty.
 fn fresh(n: u8, t: u8, at: usize, line: usize) -> Header
@@ -144,7 +152,7 @@ fn faulty_step(s: &[u8], header: Header) -> Header
 
 // As many lines as there may be, and one more
 fn faulty_steps(s: &[u8], t: u8, first: Header) -> Header
-    requires { ⌜ first .line ≤ 258 ⌝ }
+    requires { ⌜ first .line ≤ mostNamedLine ⌝ }
     ensures { λ r. ⌜ begunNet r ≡ repeat (suc t) (faultyStep replaying (now (s .entry))) (begunNet first) ⌝ }
 {
     let most = (t as usize) + 1;
@@ -160,7 +168,7 @@ fn faulty_steps(s: &[u8], t: u8, first: Header) -> Header
 // The header of a schedule, up to its end or the first line that is turned down.
 pub fn read_header(s: &[u8]) -> Header
     ensures { λ r. ⌜ begunNet r ≡ headerWalk replaying (now (s .entry)) ⌝ }
-    ensures { λ r. ⌜ r .line ≤ 600 ⌝ }
+    ensures { λ r. ⌜ r .line ≤ mostHeaderLine ⌝ }
 {
     let sized = net_step(s);
     let named = id_steps(s, sized.n, sized);

@@ -18,8 +18,8 @@ ghost use Rattle.events.specs.Events.{forgedTo};
 ghost use Rattle.stored_walk.specs.State.{HasBytes, nextOf, lineAfter, goesOn};
 ghost use Rattle.stored_walk.specs.Turn.{senderOf, receiverOf, nodePlace, reachedBy};
 
-// A line's number has a next one.
-const MOST_LINES: usize = 18446744073709551614;
+// A line's number has a next one: 2 to the 64th less 2 (`mostLines`, `stored_walk/specs/State`).
+const MOST_LINES: usize = 2 * ((1 << 63) - 1);
 
 // A forgery whose bytes stand in the schedule.
 fn forge_bytes(

@@ -16,7 +16,7 @@ ghost use Rattle.net.specs.Abstraction.{netOf};
 ghost use Rattle.net.specs.Header.{begunNet};
 ghost use Rattle.schedule.specs.Report.{lineRoom, reportRoom, baseLines};
 ghost use Rattle.schedule.specs.Walk.{nextLine, repeat};
-ghost use Rattle.stored_walk.specs.State.{reportNet, replaying};
+ghost use Rattle.stored_walk.specs.State.{mostHeaderLine, reportNet, replaying};
 
 // One line a base, in order of number.
 fn put_bases(net: StoredNet, out: &mut [u8]) -> usize
@@ -39,7 +39,7 @@ fn put_bases(net: StoredNet, out: &mut [u8]) -> usize
 // Every line behind the header, up to the text's end or the first that is turned down, then the report. The net is not handed on, so
 // that no third one is held.
 pub(crate) fn put_report(s: &[u8], header: Header, out: &mut [u8]) -> usize
-    requires { ⌜ (header .line ≤ 600) × (header .refusal ≡ 0 → header .n ≤ mostBases) ⌝ }
+    requires { ⌜ (header .line ≤ mostHeaderLine) × (header .refusal ≡ 0 → header .n ≤ mostBases) ⌝ }
     requires { ⌜ (length (now s) ≤ longestSchedule) × (reportRoom ≤ length (now out)) ⌝ }
     ensures { λ r. ⌜ Put (now (out .entry)) 0 (reportNet (repeat (length (now (s .entry))) (nextLine replaying (now (s .entry)))
         (begunNet header))) (now (out .exit)) r ⌝ }

@@ -5,6 +5,9 @@ use lists::least;
 use print::put_decimal;
 use print::put_text;
 use protocol::Base;
+use protocol::IDLE;
+use protocol::PRIME;
+use protocol::RUNNING;
 ghost use mathlib.Core.Path.{_≡_};
 ghost use Prim.Native.Nat.{_+_, _*_, _≤_};
 ghost use mathlib.Core.List.{_∷_, _++_};
@@ -71,13 +74,13 @@ pub(crate) fn put_state(out: &mut [u8], at: usize, base: Base) -> usize
     ensures { λ r. ⌜ r ≤ at + 11 * mostBases + 28 ⌝ }
 {
     let state = base.state;
-    if state == 0 {
+    if state == IDLE {
         return put_text(out, at, b" idle");
     }
-    if state == 1 {
+    if state == RUNNING {
         return put_text(out, at, b" running");
     }
-    if state == 2 {
+    if state == PRIME {
         return put_stopped(out, at, b" prime", base);
     }
     put_stopped(out, at, b" secondary", base)

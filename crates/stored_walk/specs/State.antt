@@ -28,6 +28,18 @@ pub mod Walked
 abbrev pub mostLines : ℕ
 mostLines = 2 ^ 64 - 2
 
+-- n and t are bytes
+abbrev mostOfByte : ℕ
+mostOfByte = 2 ^ 8 - 1
+
+-- the number of the line behind `net n t` and `id b v` for b = 1 to n, at most
+abbrev pub mostNamedLine : ℕ
+mostNamedLine = 2 + mostOfByte
+
+-- the number of the line behind the header, at most: `faulty a b` is looked for t + 1 times
+abbrev pub mostHeaderLine : ℕ
+mostHeaderLine = mostNamedLine + mostOfByte + 1
+
 -- ---- one line more
 -- nothing is read yet, and there is no base
 abbrev pub unreadNet : StoredNet

@@ -7,7 +7,7 @@ use denote.Ref.{now}
 use Rattle.net.specs.declared.StoredNet.{StoredNet}
 use Rattle.net.specs.Header.{begunNet}
 use Rattle.schedule.specs.Walk.{faultyStep, repeat}
-use Rattle.stored_walk.specs.State.{replaying}
+use Rattle.stored_walk.specs.State.{mostNamedLine, replaying}
 use Rattle.schedule.specs.Walk.Laws.{repeat-none, repeat-more}
 use Rattle.stored_walk.specs.State.Laws.{faulty-near}
 use Rattle.header.proofs.faulty_steps.Statement.{statement}
@@ -15,7 +15,7 @@ use Rattle.header.proofs.faulty_steps.Tie as tie
 
 abbrev Inv-loop : tie.InvT-loop
 Inv-loop s t most header₀ k₀ header k =
-    (k ≤ most) × ((most ≡ t + 1) × ((header .line ≤ 258 + k) × (begunNet header ≡ repeat k (faultyStep replaying s) (begunNet header₀))))
+    (k ≤ most) × ((most ≡ t + 1) × ((header .line ≤ mostNamedLine + k) × (begunNet header ≡ repeat k (faultyStep replaying s) (begunNet header₀))))
 
 abbrev μ-loop : tie.MeasureT-loop
 μ-loop s t most header₀ k₀ header k = most - k
@@ -45,7 +45,7 @@ loop-again c = let I = c .before .before .loop .inv in (
       omega (
         arith,
         ap (λ (p : StoredNet). p .line) (c .faulty-step .ensures),
-        faulty-near (now (c .before .before .before .before .args .s)) (258 + c .before .before .loop .k)
+        faulty-near (now (c .before .before .before .before .args .s)) (mostNamedLine + c .before .before .loop .k)
             (begunNet (c .before .before .loop .header)) (I .1 .1 .0),
       ),
       repeat-more _ _ _ (I .1 .1 .1) (c .faulty-step .ensures),

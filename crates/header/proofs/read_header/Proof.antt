@@ -7,7 +7,7 @@ use denote.Ref.{now}
 use Rattle.net.specs.declared.StoredNet.{StoredNet}
 use Rattle.net.specs.Header.{begunNet}
 use Rattle.schedule.specs.Walk.{idSteps, faultyStep, repeat, headerWalk}
-use Rattle.stored_walk.specs.State.{replaying}
+use Rattle.stored_walk.specs.State.{mostHeaderLine, replaying}
 use Rattle.stored_walk.specs.State.Laws.{net-near, ids-near, faulties-near}
 use Rattle.header.proofs.read_header.Statement.{statement}
 use Rattle.header.proofs.read_header.Tie as tie
@@ -39,7 +39,7 @@ returns c =
     let faulties : StoredNet → StoredNet = λ p. repeat (suc (p .t)) (faultyStep replaying s) p in
     let ids : StoredNet → StoredNet = λ p. idSteps replaying s (p .n) p in (
       c .faulty-steps .ensures ∙ ap faulties (c .before .id-steps .ensures ∙ ap ids (c .before .before .net-step .ensures)),
-      subst (λ (p : StoredNet). p .line ≤ 600) (sym (c .faulty-steps .ensures))
+      subst (λ (p : StoredNet). p .line ≤ mostHeaderLine) (sym (c .faulty-steps .ensures))
           (omega (
             arith,
             faulties-near s (suc (c .before .id-steps .result .t)) (2 + c .before .before .net-step .result .n)
