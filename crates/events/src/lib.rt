@@ -1,10 +1,10 @@
 // A carry and a forgery, each on the nodes that it names. What is turned down, by 16 to 18 or by the base's call, leaves the base
 // that it would reach as it was. A start is the call alone (crate `node_calls`). Crate `representation` has what these do to the net.
 use decoding::identifiers;
+use faulty_links::Faulty;
+use faulty_links::is_good;
 use limits::IDENTIFIER_BYTES;
 use limits::refusal;
-use net::Faulty;
-use net::links::is_good;
 use node::Node;
 use node::log::broadcast;
 use node::log::broadcasts;
@@ -16,7 +16,7 @@ use numbering::link_to;
 use reader::Reading;
 use reader::read;
 ghost use mathlib.Core.Path.{_≡_};
-ghost use Rattle.net.specs.Abstraction.{pairsOf};
+ghost use Rattle.faulty_links.specs.Faulty.{pairsOf};
 ghost use Rattle.events.specs.Events.{carryRefusal, carriedTo, forgedTo};
 
 // The base that an event reaches, as the event left it, beside 16, 17 or 18 where that turned the event down, else 0.

@@ -1,4 +1,11 @@
 // The header of a schedule, read line by line into a small value, from which the net is made once.
+use base_identifiers::id_refusal;
+use base_identifiers::with_id;
+use faulty_links::Faulty;
+use faulty_links::faulty_refusal;
+use faulty_links::is_good;
+use faulty_links::no_faulty;
+use faulty_links::with_faulty;
 use limits::MOST_BASES;
 use limits::refusal::FORM;
 use limits::size_refusal;
@@ -6,14 +13,7 @@ use lines::bases::Two;
 use lines::header::faulty_line;
 use lines::header::id_line;
 use lines::header::net_line;
-use net::Faulty;
 use net::Header;
-use net::links::faulty_refusal;
-use net::links::is_good;
-use net::links::no_faulty;
-use net::links::with_faulty;
-use net::made::id_refusal;
-use net::made::with_id;
 use text::number::Number;
 ghost use mathlib.Core.Path.{_≡_};
 ghost use Prim.Native.Nat.{suc, _+_, _≤_};

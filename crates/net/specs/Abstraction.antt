@@ -1,18 +1,16 @@
 -- Which net of document 01 ("The net over a whole history") the program's net stands for. Bases are numbered from 1.
 use Prim.Native.Nat.{ℕ, _-_, min}
-use mathlib.Core.List.{List, [], map}
-use lib.ListN.{take, getD, set, replicate}
-use Rattle.limits.specs.Limits.{mostBases, mostFaulty}
+use mathlib.Core.List.{List, []}
+use lib.ListN.{getD, set, replicate}
+use Rattle.limits.specs.Limits.{mostBases}
 use Rattle.lists.specs.Choice.{choose}
 use Rattle.protocol.specs.declared.Base.{Base}
 use Rattle.protocol.specs.Sound.{idleBase}
 use Rattle.protocol.specs.Net as Nets
 use Rattle.node.specs.declared.Node.{Node}
 use Rattle.node.specs.Node.{mostBroadcasts, markRoom, inRange, emptyFrame, logOf, heardBy}
-use Rattle.net.specs.declared.FaultyLink.{FaultyLink}
-use Rattle.net.specs.declared.Faulty.{Faulty}
+use Rattle.faulty_links.specs.Faulty.{pairsOf}
 use Rattle.net.specs.declared.StoredNet.{StoredNet}
-pub mod Pairs
 
 -- ---- the bases
 -- an idle base without an identifier, with no broadcast and no carry
@@ -46,14 +44,5 @@ unfoldable pub size : StoredNet → ℕ
 size w = min (w .n) mostBases
 
 -- ---- the faulty links
-abbrev pub faultyRoom : ℕ
-faultyRoom = mostFaulty mostBases
-
-unfoldable pub pairOf : FaultyLink → Nets.Pair
-pairOf p = record { one = p .one; other = p .other }
-
-unfoldable pub pairsOf : Faulty → List Nets.Pair
-pairsOf f = map pairOf (take (f .count) (f .pairs))
-
 unfoldable pub faultyOf : StoredNet → List Nets.Pair
 faultyOf w = pairsOf (w .faulty)

@@ -1,26 +1,11 @@
 // A whole net as the program keeps it: one node a base, the links that are faulty, and how far the net's schedule is read.
 // specs/Abstraction.antt says which net of document 01 it stands for.
-pub mod links;
 pub mod made;
 pub mod nodes;
 
+use faulty_links::Faulty;
 use limits::MOST_BASES;
 use node::Node;
-
-// Links that may be faulty in the largest net.
-pub const MOST_FAULTY: usize = (MOST_BASES - 2) / 2;
-
-// A link by its two bases.
-pub struct FaultyLink {
-    pub one: u8,
-    pub other: u8,
-}
-
-// The faulty links, in the order in which they were named.
-pub struct Faulty {
-    pub count: usize,
-    pub pairs: [FaultyLink; MOST_FAULTY],
-}
 
 // The header of a schedule, as far as it is read.
 pub struct Header {

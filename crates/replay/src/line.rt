@@ -1,11 +1,11 @@
 // The lines of events.
 use events::Reached;
+use faulty_links::Faulty;
 use hexadecimal::hex_bytes;
 use limits::MOST_BASES;
 use limits::refusal::FORM;
 use lines::event::Line;
 use lines::event::event_line;
-use net::Faulty;
 use net::StoredNet;
 use node::Node;
 ghost use mathlib.Core.Path.{_≡_};
@@ -13,7 +13,7 @@ ghost use Prim.Native.Nat.{_≤_, _<_, _*_};
 ghost use lib.ListN.{length, drop};
 ghost use Rattle.limits.specs.Limits.{mostBases, longestForgery};
 ghost use Rattle.hexadecimal.specs.Hex.{hexBytes};
-ghost use Rattle.net.specs.Abstraction.{pairsOf};
+ghost use Rattle.faulty_links.specs.Faulty.{pairsOf};
 ghost use Rattle.events.specs.Events.{forgedTo};
 ghost use Rattle.stored_walk.specs.State.{HasBytes, nextOf, lineAfter, goesOn};
 ghost use Rattle.stored_walk.specs.Turn.{senderOf, receiverOf, nodePlace, reachedBy};

@@ -10,7 +10,8 @@ use Rattle.protocol.specs.Net as Nets
 use Rattle.protocol.specs.Agreement.{Setting, Fresh, AllProper}
 use Rattle.node.specs.Node.Memory.{SizedNode}
 use Rattle.net.specs.declared.StoredNet.{StoredNet}
-use Rattle.net.specs.Abstraction.{noNode, netOf, faultyOf, faultyRoom}
+use Rattle.net.specs.Abstraction.{noNode, netOf, faultyOf}
+use Rattle.faulty_links.specs.Faulty.{faultyRoom}
 pub mod Nodes
 pub mod Marks
 pub mod Tables

@@ -18,7 +18,7 @@ use Rattle.protocol.specs.Net.{Pair, good, Event, happens}
 use Rattle.protocol.specs.Net as Nets
 use Rattle.protocol.specs.Agreement.{Proper}
 use Rattle.net.specs.declared.StoredNet.{StoredNet}
-use Rattle.net.specs.Abstraction.{nodeAt, netOf, faultyOf, faultyRoom, size}
+use Rattle.net.specs.Abstraction.{nodeAt, netOf, faultyOf, size}
 use Rattle.net.specs.Header.{madeNet, namedNet, markedNet}
 use Rattle.events.specs.Events.{moved, after}
 use Rattle.representation.specs.Represents.{Represents, History}

@@ -11,7 +11,7 @@ use Rattle.hexadecimal.specs.Hex.{hexBytes}
 use Rattle.lines.specs.declared.event.Line.{Line}
 use Rattle.lines.specs.declared.event.Line.the-variants.{Start, Carry, Forge, Wrong}
 use Rattle.protocol.specs.Net.{good, starts, carry, forge, waiting}
-use Rattle.net.specs.declared.Faulty.{Faulty}
+use Rattle.faulty_links.specs.declared.Faulty.{Faulty}
 use Rattle.net.specs.declared.Header.{Header}
 use Rattle.net.specs.declared.StoredNet.{StoredNet}
 use Rattle.net.specs.Abstraction.{netOf, faultyOf, size}

@@ -1,6 +1,6 @@
 // What waits, by its numbers: broadcasts that were not carried to a base at the other end of a good link.
+use faulty_links::is_good;
 use net::StoredNet;
-use net::links::is_good;
 use net::nodes::node_at;
 use node::Node;
 use node::log::broadcasts;

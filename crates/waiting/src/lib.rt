@@ -1,9 +1,9 @@
 // What waits: broadcasts and bases at the other end of a good link to which they were not carried.
+use faulty_links::Faulty;
+use faulty_links::is_good;
 use limits::MOST_BASES;
 use lists::least;
-use net::Faulty;
 use net::StoredNet;
-use net::links::is_good;
 use node::Node;
 use node::log::broadcasts;
 use node::marks::unheard;
@@ -14,7 +14,8 @@ ghost use Rattle.counting.specs.Sums.{sum};
 ghost use Rattle.node.specs.Node.{mostBroadcasts};
 ghost use Rattle.protocol.specs.Net.{waitingFrom};
 ghost use Rattle.protocol.specs.Net as Nets;
-ghost use Rattle.net.specs.Abstraction.{pairsOf, faultyOf, netOf, size};
+ghost use Rattle.faulty_links.specs.Faulty.{pairsOf};
+ghost use Rattle.net.specs.Abstraction.{faultyOf, netOf, size};
 ghost use Rattle.waiting.specs.Waits.{waitingBetween};
 
 // Broadcasts of a that wait to be carried to b.

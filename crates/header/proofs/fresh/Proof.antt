@@ -1,6 +1,5 @@
 -- `header::fresh` meets its contract: the net that it gives is the one made.
 use mathlib.Core.Path.{ap, _∙_}
-use Rattle.net.specs.declared.Faulty.{Faulty}
 use Rattle.net.specs.Header.Begun.{begun-made}
 use borrow.Author.Needs.{needs}
 use Rattle.header.proofs.fresh.Statement.{statement}

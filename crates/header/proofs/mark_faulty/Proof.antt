@@ -3,7 +3,7 @@ use borrow.Author.Needs.{needs}
 use mathlib.Core.Path.{sym, ap, _∙_}
 use mathlib.Core.Bool.{not}
 use Rattle.lists.specs.Choice.Laws.{chosen-yes, chosen-no}
-use Rattle.net.specs.declared.Faulty.{Faulty}
+use Rattle.faulty_links.specs.declared.Faulty.{Faulty}
 use Rattle.net.specs.Abstraction.{faultyOf}
 use Rattle.net.specs.Header.{begunNet}
 use Rattle.schedule.specs.Walk.{markStep}

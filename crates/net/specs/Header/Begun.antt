@@ -16,11 +16,12 @@ use Rattle.node.specs.declared.Node.{Node}
 use Rattle.node.specs.Node.{inRange, withBase}
 use Rattle.node.specs.Node.Within.{is-within, within-range}
 use Rattle.schedule.specs.Header.{owned, idRefusal}
-use Rattle.net.specs.declared.Faulty.{Faulty}
+use Rattle.faulty_links.specs.Faulty.{noFaulty}
+use Rattle.base_identifiers.specs.Identifiers.{namedIds, isNamed, idNumber}
 use Rattle.net.specs.declared.Header.{Header}
 use Rattle.net.specs.declared.StoredNet.{StoredNet}
 use Rattle.net.specs.Abstraction.{noNode, emptyNode, nodeAt, withNode, withNodes, netOf}
-use Rattle.net.specs.Header.{noFaulty, madeNet, namedNet, namedIds, isNamed, idNumber, idleNode, begunNet}
+use Rattle.net.specs.Header.{madeNet, namedNet, idleNode, begunNet}
 
 -- ---- `net n t`
 map-same : {A B : Type 0} (f : A → B) (k : ℕ) (a : A) → map f (replicate k a) ≡ replicate k (f a)

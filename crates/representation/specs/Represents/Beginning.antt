@@ -23,11 +23,11 @@ use Rattle.node.specs.Node.{mostBroadcasts, markRoom, inRange, markPlace, logOf
 use Rattle.node.specs.Node.Memory.{SizedNode}
 use Rattle.node.specs.Node.Within.{is-within, within-range}
 use Rattle.net.specs.declared.StoredNet.{StoredNet}
-use Rattle.net.specs.declared.FaultyLink.{FaultyLink}
-use Rattle.net.specs.declared.Faulty.{Faulty}
-use Rattle.net.specs.Abstraction.{noNode, emptyNode, nodeAt, withNode, netOf, pairOf, pairsOf, faultyOf, faultyRoom, size}
-use Rattle.net.specs.Abstraction.Pairs.{noPair}
-use Rattle.net.specs.Header.{madeNet, namedNet, markedFaulty, markedNet}
+use Rattle.faulty_links.specs.declared.FaultyLink.{FaultyLink}
+use Rattle.faulty_links.specs.declared.Faulty.{Faulty}
+use Rattle.net.specs.Abstraction.{noNode, emptyNode, nodeAt, withNode, netOf, faultyOf, size}
+use Rattle.faulty_links.specs.Faulty.{pairOf, pairsOf, faultyRoom, noPair, markedFaulty}
+use Rattle.net.specs.Header.{madeNet, namedNet, markedNet}
 use Rattle.representation.specs.Represents.{Represents}
 use Rattle.representation.specs.Represents.Tables.{
   replaced-map,

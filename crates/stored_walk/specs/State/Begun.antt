@@ -5,7 +5,9 @@ use lib.ListN.{length}
 use Rattle.limits.specs.Limits.{mostBases}
 use Rattle.net.specs.declared.Header.{Header}
 use Rattle.net.specs.declared.StoredNet.{StoredNet}
-use Rattle.net.specs.Header.{namedNet, namedIds, markedFaulty, markedNet, begunNet}
+use Rattle.net.specs.Header.{namedNet, markedNet, begunNet}
+use Rattle.base_identifiers.specs.Identifiers.{namedIds}
+use Rattle.faulty_links.specs.Faulty.{markedFaulty}
 use Rattle.net.specs.Header.Begun.{begun-named}
 use Rattle.stored_walk.specs.State.{onwardNet, onwardHeader}
 

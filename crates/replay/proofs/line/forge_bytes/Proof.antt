@@ -9,7 +9,7 @@ use lib.Seq.{length-take-le}
 use denote.Ref.{now}
 use Rattle.hexadecimal.specs.Hex.{hexBytes}
 use Rattle.hexadecimal.specs.Hex.Laws.{length-hex, hex-front}
-use Rattle.net.specs.Abstraction.{pairsOf}
+use Rattle.faulty_links.specs.Faulty.{pairsOf}
 use Rattle.events.specs.Events.{forgedTo}
 use Rattle.replay.proofs.line.forge_bytes.Statement.{statement}
 use Rattle.replay.proofs.line.forge_bytes.Tie as tie

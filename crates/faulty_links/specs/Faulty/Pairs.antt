@@ -1,0 +1,47 @@
+-- Whether a link is good, pair by pair.
+use Prim.Native.Nat.{ℕ, _+_, _≤_, _<_}
+use mathlib.Core.Path.{_≡_, sym, ap, _∙_}
+use mathlib.Core.Bool.{Bool, true, false}
+use mathlib.Core.List.{List}
+use native.Mathlib.Numerals.{add-one}
+use native.Mathlib.Omega.{arith}
+use lib.ListN.{length, getD, take, drop, length-map, length-take, List·getD-map}
+use lib.Seq.{length-take-le, take-all, getD-take, drop-cons, drop-length}
+use Rattle.lists.specs.Choice.{and}
+use Rattle.protocol.specs.Net.{Pair, joins, good}
+use Rattle.faulty_links.specs.declared.Faulty.{Faulty}
+use Rattle.faulty_links.specs.Faulty.{pairOf, pairsOf, noPair}
+
+-- ---- how many are named
+pub pairs-part : (f : Faulty) → f .count ≤ length (f .pairs) → length (pairsOf f) ≡ f .count
+unfolding pairsOf
+pairs-part f h = length-map (take (f .count) (f .pairs)) pairOf ∙ length-take-le (f .count) (f .pairs) h
+
+pub pairs-full : (f : Faulty) → length (f .pairs) ≤ f .count → length (pairsOf f) ≡ length (f .pairs)
+unfolding pairsOf
+pairs-full f h = length-map (take (f .count) (f .pairs)) pairOf ∙ ap length (take-all (f .count) (f .pairs) h)
+
+pub pair-there : (f : Faulty) (i : ℕ) → i < length (pairsOf f) → pairOf (getD (f .pairs) i noPair) ≡ getD (pairsOf f) i (pairOf noPair)
+unfolding pairsOf
+pair-there f i h =
+    ap pairOf (sym (getD-take (f .count)
+    (f .pairs) i noPair (omega (arith, length-map (take (f .count) (f .pairs)) pairOf, length-take (f .count) (f .pairs)))))
+    ∙ sym (List·getD-map pairOf (take (f .count) (f .pairs)) i noPair)
+
+pub joined-there : (f : Faulty) (i a b : ℕ) → i < length (pairsOf f)
+    → {r : Bool} → r ≡ joins (pairOf (getD (f .pairs) i noPair)) a b → joins (getD (pairsOf f) i (pairOf noPair)) a b ≡ r
+joined-there f i a b h e = ap (λ (p : Pair). joins p a b) (sym (pair-there f i h)) ∙ sym e
+
+-- ---- one pair after another
+module _ (l : List Pair) (a b i : ℕ) (none : Pair) where
+  pub good-broken : i < length l → joins (getD l i none) a b ≡ true → good (drop i l) a b ≡ false
+  unfolding good and
+  good-broken h e = rw (drop-cons l i none h, e)
+
+  pub good-next : i < length l → joins (getD l i none) a b ≡ false → good (drop i l) a b ≡ good (drop (i + 1) l) a b
+  unfolding good and
+  good-next h e = rw (drop-cons l i none h, e, add-one i)
+
+pub good-end : (l : List Pair) (a b i : ℕ) → i ≡ length l → good (drop i l) a b ≡ true
+unfolding good
+good-end l a b i e = rw (e, drop-length l)
