@@ -1,5 +1,6 @@
-// The lines of events: each is taken by replay's own step, and shown by what the net was before it.
+// The lines of events: each is taken by the replay's own step, and shown by what the net was before it.
 use crate::line::show_line;
+use event_lines::line_step;
 use hexadecimal::hex_bytes;
 use lines::event::Line;
 use lines::event::event_line;
@@ -8,7 +9,6 @@ use net::nodes::node_at;
 use node::log::broadcast;
 use numbering::link_to;
 use output::parts::part;
-use replay::line::line_step;
 use trace::call;
 use trace::call::Arrival;
 

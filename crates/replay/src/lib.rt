@@ -1,5 +1,4 @@
 // One call from a schedule's bytes to the report: the state of every base at the end, or the first line that is turned down.
-pub mod line;
 mod output;
 
 use crate::output::put_report;

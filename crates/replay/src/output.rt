@@ -1,5 +1,5 @@
 // The report in an output.
-use crate::line::line_step;
+use event_lines::line_step;
 use net::Header;
 use net::StoredNet;
 use net::made::begun;

@@ -1,10 +1,10 @@
--- `replay::line::goes_on` meets its contract: one test after another.
+-- `event_lines::goes_on` meets its contract: one test after another.
 use mathlib.Core.Path.{refl}
 use borrow.Author.Tests.{eq-eqb, ne-eqb, lt-ltb, le-ltb, le-leb, lt-leb}
 use Rattle.lists.specs.Choice.Laws.{and-fails, and-goes-on}
 use Rattle.stored_walk.specs.State.{goesOn}
-use Rattle.replay.proofs.line.goes_on.Statement.{statement}
-use Rattle.replay.proofs.line.goes_on.Tie as tie
+use Rattle.event_lines.proofs.goes_on.Statement.{statement}
+use Rattle.event_lines.proofs.goes_on.Tie as tie
 
 returns : tie.Need-returns
 unfolding goesOn

@@ -1,4 +1,4 @@
--- `replay::line::happen` meets its contract: the line decides.
+-- `event_lines::happen` meets its contract: the line decides.
 use mathlib.Core.Path.{refl, ap, subst}
 use denote.Ref.{now}
 use Rattle.node_calls.specs.declared.Told.{Told}
@@ -6,8 +6,8 @@ use Rattle.node_calls.specs.Calls.{told}
 use Rattle.stored_walk.specs.State.{HasBytes}
 use Rattle.stored_walk.specs.Turn.{reachedBy}
 use borrow.Author.Needs.{needs}
-use Rattle.replay.proofs.line.happen.Statement.{statement}
-use Rattle.replay.proofs.line.happen.Tie as tie
+use Rattle.event_lines.proofs.happen.Statement.{statement}
+use Rattle.event_lines.proofs.happen.Tie as tie
 
 enum-told : tie.Need-enum-told
 enum-told c = search needs

@@ -1,4 +1,4 @@
--- `replay::line::forge_bytes` meets its contract: the front of the array holds the bytes that stand in the schedule.
+-- `event_lines::forge_bytes` meets its contract: the front of the array holds the bytes that stand in the schedule.
 use native.Mathlib.Omega.{arith}
 use borrow.Author.Needs.{needs}
 use Prim.Native.Nat.{ℕ, _≤_}
@@ -11,8 +11,8 @@ use Rattle.hexadecimal.specs.Hex.{hexBytes}
 use Rattle.hexadecimal.specs.Hex.Laws.{length-hex, hex-front}
 use Rattle.faulty_links.specs.Faulty.{pairsOf}
 use Rattle.events.specs.Events.{forgedTo}
-use Rattle.replay.proofs.line.forge_bytes.Statement.{statement}
-use Rattle.replay.proofs.line.forge_bytes.Tie as tie
+use Rattle.event_lines.proofs.forge_bytes.Statement.{statement}
+use Rattle.event_lines.proofs.forge_bytes.Tie as tie
 
 room : (c : tie.After-hex-bytes) → c .before .before .args .count ≤ length (c .hex-bytes .result)
 room c = omega (

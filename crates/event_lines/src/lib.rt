@@ -1,4 +1,4 @@
-// The lines of events.
+// The lines of events: the next line of a schedule on the net of the lines before it.
 use events::Reached;
 use faulty_links::Faulty;
 use hexadecimal::hex_bytes;

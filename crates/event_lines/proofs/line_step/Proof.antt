@@ -1,4 +1,4 @@
--- `replay::line::line_step` meets its contract: nothing where no line follows, else what the line does to the base that it reaches.
+-- `event_lines::line_step` meets its contract: nothing where no line follows, else what the line does to the base that it reaches.
 use native.Mathlib.Omega.{arith}
 use borrow.Author.Needs.{needs}
 use borrow.Author.Tests.{not-true, not-false}
@@ -15,8 +15,8 @@ use Rattle.schedule.specs.Walk.{nextLine}
 use Rattle.stored_walk.specs.State.{mostLines, HasBytes, refusedNet, onwardNet, happened, replaying, lineAfter}
 use Rattle.stored_walk.specs.State.Laws.{line-stays, line-goes-on, line-after, line-refused, line-onward, told-bytes}
 use Rattle.stored_walk.specs.Turn.{stored, turned}
-use Rattle.replay.proofs.line.line_step.Statement.{statement}
-use Rattle.replay.proofs.line.line_step.Tie as tie
+use Rattle.event_lines.proofs.line_step.Statement.{statement}
+use Rattle.event_lines.proofs.line_step.Tie as tie
 
 -- ---- by name
 abbrev read : (c : tie.After-happen) → tie.After-event-line
