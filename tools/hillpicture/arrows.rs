@@ -1,7 +1,7 @@
 //! Arrows and marks. The shaft tells the link (solid, dashed, zigzag), the end tells what became of the message (head, cross, wall):
 //! colour only repeats it.
 
-use crate::layout::STUB;
+use crate::layout::{BESIDE_STUB, STUB};
 use crate::svg::{Anchor, Svg};
 use crate::trace::Outcome;
 
@@ -56,7 +56,7 @@ pub fn arrow(svg: &mut Svg, shaft: Shaft, tip: Tip, from: i32, to: i32, y: i32) 
 /// An arrow from a base that is not drawn: its number stands where the arrow begins.
 pub fn stub(svg: &mut Svg, shaft: Shaft, tip: Tip, sender: usize, from: i32, to: i32, y: i32) {
     let ahead = (to - from).signum();
-    let number = from + ahead * (STUB / 2 + 2);
+    let number = from + ahead * (STUB / 2 + BESIDE_STUB);
     svg.rect("stub", number - STUB / 2, y - 7, STUB, 14);
     svg.text("", Anchor::Middle, number, y + 4, &sender.to_string());
     draw_shaft(svg, shaft, tip, number + ahead * STUB / 2, to, y);

@@ -29,13 +29,14 @@ impl Cut {
     pub fn of(&self, trace: &Trace) -> Result<Shown, String> {
         let all: Vec<usize> = (1..=trace.n()).collect();
         let bases = self.bases.clone().unwrap_or(all);
-        if let Some(b) = bases.iter().find(|&&b| b < 1 || b > trace.n()) {
+        if let (Some(b), Some(_)) = (bases.iter().find(|&&b| b < 1 || b > trace.n()), trace.net) {
             return Err(format!("the net has no base {b}"));
         }
+        let bases = if trace.net.is_some() { bases } else { Vec::new() };
         let last = self.lines.map_or(usize::MAX, |(_, last)| last);
         let until = trace.events.iter().take_while(|event| event.line <= last).count();
         let events: Vec<usize> = (0..until).filter(|&i| self.shows(trace, &bases, i)).collect();
-        if events.is_empty() && !trace.events.is_empty() {
+        if events.is_empty() && !trace.events.is_empty() && !self.has_refused_line(trace) {
             return Err("nothing happens there".to_string());
         }
         let whole_end = until == trace.events.len();
@@ -44,6 +45,13 @@ impl Cut {
             _ => trace.states_after(until),
         };
         Ok(Shown { events, bases, told: self.told(), states, whole_end })
+    }
+
+    fn has_refused_line(&self, trace: &Trace) -> bool {
+        match (&trace.end, self.lines) {
+            (End::Refused { line, .. }, Some((first, last))) => (first..=last).contains(line),
+            _ => false,
+        }
     }
 
     fn shows(&self, trace: &Trace, bases: &[usize], i: usize) -> bool {
@@ -55,7 +63,10 @@ impl Cut {
 
     /// "lines 40 to 90, without what stopped bases discard"
     fn told(&self) -> Option<String> {
-        let lines = self.lines.map(|(first, last)| format!("lines {first} to {last}"));
+        let lines = self.lines.map(|(first, last)| match first == last {
+            true => format!("line {first}"),
+            false => format!("lines {first} to {last}"),
+        });
         let heard = |bases: &Vec<usize>| format!("what is heard at {} (a number in a box is another base)", bases_in_words(bases));
         let bases = self.bases.as_ref().map(heard);
         let stopped = self.without_stopped.then(|| "without what stopped bases discard".to_string());

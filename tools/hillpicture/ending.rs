@@ -42,6 +42,9 @@ impl Chart<'_> {
     }
 }
 
+/// Of those that something waits between; more are left to the trace.
+const MOST_PAIRS: usize = 12;
+
 /// A line of text at the end of the picture.
 enum Line {
     Plain(String),
@@ -79,7 +82,8 @@ pub fn height(trace: &Trace, shown: &Shown, names: &Names, width: i32) -> i32 {
 
 /// The same for a screen reader.
 pub fn description(trace: &Trace, shown: &Shown, names: &Names) -> String {
-    sentences(trace, shown, names).join(" ")
+    let ended = |sentence: String| if sentence.ends_with(['.', ':']) { sentence } else { format!("{sentence}.") };
+    sentences(trace, shown, names).into_iter().map(ended).collect::<Vec<_>>().join(" ")
 }
 
 fn is_refused(trace: &Trace, shown: &Shown) -> bool {
@@ -108,21 +112,31 @@ fn told_line(trace: &Trace) -> Option<&String> {
 
 fn sentences(trace: &Trace, shown: &Shown, names: &Names) -> Vec<String> {
     match &trace.end {
-        End::Refused { number, line, told } if shown.whole_end => refusal(*number, *line, told, trace.events.is_empty()),
+        End::Refused { number, line, told } if shown.whole_end => {
+            let mut lines = refusal(*number, *line, told);
+            lines.extend(what_is_shown(trace, shown));
+            lines
+        }
         _ => states(trace, shown, names),
     }
 }
 
 /// The number, then the line with what the trace tells of it, or else what the number means.
-fn refusal(number: usize, line: usize, told: &[String], nothing_before: bool) -> Vec<String> {
-    let shown = if nothing_before { "Nothing happened before it." } else { "The picture shows what the lines before it did." };
+fn refusal(number: usize, line: usize, told: &[String]) -> Vec<String> {
     let mut lines = vec![format!("refused {number} line {line}")];
     match told.is_empty() {
         true => lines.push(format!("Line {line} of the schedule: {}.", meaning(number).unwrap_or("see docs/RULES.md"))),
         false => lines.extend(told.iter().map(|line| line.trim_start().to_string())),
     }
-    lines.push(shown.to_string());
     lines
+}
+
+fn what_is_shown(trace: &Trace, shown: &Shown) -> Option<String> {
+    match (trace.events.is_empty(), shown.events.is_empty()) {
+        (true, _) => Some("Nothing happened before it.".to_string()),
+        (false, false) => Some("The picture shows what the lines before it did.".to_string()),
+        (false, true) => None,
+    }
 }
 
 /// "Stopped with L = 300 400 500, leader 500: bases 1, 2 and 3."
@@ -147,9 +161,14 @@ fn states(trace: &Trace, shown: &Shown, names: &Names) -> Vec<String> {
             out.push(format!("{word}: {bases}."));
         }
     }
-    if let (End::Report { waiting, .. }, true) = (&trace.end, shown.whole_end) {
+    if let (End::Report { waiting, pairs, .. }, true) = (&trace.end, shown.whole_end) {
         let each = "each a broadcast and a base at the other end of a good link that it has not been carried to";
         out.push(format!("Waiting: {waiting} ({each})."));
+        match pairs.len() {
+            0 => {}
+            1..=MOST_PAIRS => out.push(format!("The broadcasts' numbers, {}.", pairs.join("; "))),
+            _ => out.push("The trace lists them.".to_string()),
+        }
     }
     out
 }

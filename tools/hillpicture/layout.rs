@@ -25,8 +25,9 @@ const NARROWEST_GAP: i32 = 84;
 const BASES: i32 = 360;
 /// Room beside a label for the arrow's end and the base's line.
 const BESIDE_LABEL: i32 = 22;
-/// Room for the number of a base that is not drawn.
+/// Room for the number of a base that is not drawn, and between it and the next base's line.
 pub const STUB: i32 = 22;
+pub const BESIDE_STUB: i32 = 8;
 
 pub struct Columns {
     /// Right edge of the schedule's line numbers.
@@ -90,7 +91,7 @@ fn gap(trace: &Trace, shown: &Shown, names: &Names) -> i32 {
     let label = heard.map(|hearing| width_of(&names.message(&hearing.message), FIXED)).max().unwrap_or(0);
     let id = trace.ids.iter().map(|id| width_of(&id.to_string(), FIXED)).max().unwrap_or(0);
     let spread = (BASES / shown.bases.len().max(1) as i32).min(150);
-    let stub = if shown.bases.len() < trace.n() { STUB } else { 0 };
+    let stub = if shown.bases.len() < trace.n() { STUB + 2 * BESIDE_STUB } else { 0 };
     (label + BESIDE_LABEL + stub).max(id + 18).max(spread).max(NARROWEST_GAP)
 }
 
@@ -190,9 +191,29 @@ pub fn wrapped_to(text: &str, size: i32, width: i32) -> Vec<String> {
     lines
 }
 
-/// By its places, whatever stands there: a line of a schedule can be one long word, and its spaces count.
+/// By its places, whatever stands there: a line of a schedule can be one long word, and its spaces count. Neither an escape nor the count
+/// of bytes is broken.
 pub fn broken_to(text: &str, size: i32, width: i32) -> Vec<String> {
-    let places: Vec<char> = text.chars().collect();
-    let most = (1..=places.len()).take_while(|&count| width_of(&"x".repeat(count), size) <= width).count();
-    places.chunks(most.max(1)).map(|part| part.iter().collect()).collect()
+    let mut lines = vec![String::new()];
+    let mut rest = text;
+    while !rest.is_empty() {
+        let (unit, behind) = rest.split_at(unit(rest));
+        match lines.last_mut() {
+            Some(line) if line.is_empty() || width_of(&format!("{line}{unit}"), size) <= width => line.push_str(unit),
+            _ => lines.push(unit.to_string()),
+        }
+        rest = behind;
+    }
+    lines
+}
+
+/// The length of what stays together at the front: `\xNN`, `\r`, ` ... (302 bytes)` at the end, or else one sign.
+fn unit(text: &str) -> usize {
+    let signs = match text.as_bytes() {
+        [b'\\', b'x', ..] => 4,
+        [b'\\', ..] => 2,
+        _ if text.starts_with(" ... (") && text.ends_with(" bytes)") => text.chars().count(),
+        _ => 1,
+    };
+    text.chars().take(signs).map(char::len_utf8).sum()
 }

@@ -5,7 +5,7 @@ use crate::cut::Shown;
 use crate::layout::{wrapped_to, FIXED, MARGIN, PLAIN};
 use crate::names::Names;
 use crate::svg::{width_of, Anchor, Svg};
-use crate::trace::Trace;
+use crate::trace::{End, Trace};
 
 const LINE: i32 = 19;
 /// Left edges of the legend's blocks, and how far the second row of them stands below the first.
@@ -15,16 +15,26 @@ pub const WIDTH: i32 = 780;
 /// Where the text behind a sample of an arrow begins.
 const BEHIND_ARROW: i32 = 72;
 
-/// "Net of 4 bases, t = 1, faulty links 1–2"
+/// "Net of 4 bases, t = 1, faulty link 1–2: refused at line 13"
 pub fn title(trace: &Trace) -> String {
     let Some(net) = trace.net else { return "No net: the schedule is refused".to_string() };
-    let links: Vec<String> = trace.faulty.iter().map(|(a, b)| format!("{a}–{b}")).collect();
-    let faulty = match links.len() {
-        0 => "no faulty link".to_string(),
-        1 => format!("faulty link {}", links[0]),
-        _ => format!("faulty links {}", links.join(", ")),
+    let refused = match trace.end {
+        End::Refused { line, .. } => format!(": refused at line {line}"),
+        End::Report { .. } => String::new(),
     };
-    format!("Net of {} bases, t = {}, {faulty}", net.n, net.t)
+    format!("Net of {} bases, t = {}{}{refused}", net.n, net.t, faulty(trace))
+}
+
+/// Nothing where none is named in a header that may not have been read to its end.
+fn faulty(trace: &Trace) -> String {
+    let links: Vec<String> = trace.faulty.iter().map(|(a, b)| format!("{a}–{b}")).collect();
+    let header_ends = !trace.events.is_empty() || matches!(trace.end, End::Report { .. });
+    match links.len() {
+        0 if header_ends => ", no faulty link".to_string(),
+        0 => String::new(),
+        1 => format!(", faulty link {}", links[0]),
+        _ => format!(", faulty links {}", links.join(", ")),
+    }
 }
 
 /// The title and a quiet line under it; answers how far down they reach.
@@ -50,7 +60,7 @@ pub fn draw(svg: &mut Svg, trace: &Trace, shown: &Shown, names: &Names) -> i32 {
         top += 15;
     }
     top += 12;
-    messages(svg, trace, MARGIN + BLOCKS[0], top);
+    messages(svg, trace, names, MARGIN + BLOCKS[0], top);
     shafts(svg, MARGIN + BLOCKS[1], top);
     tips(svg, MARGIN + BLOCKS[2], top);
     bases(svg, MARGIN + BLOCKS[0], top + SECOND_ROW);
@@ -64,11 +74,16 @@ pub fn draw(svg: &mut Svg, trace: &Trace, shown: &Shown, names: &Names) -> i32 {
 fn explained(svg: &mut Svg, mut y: i32) -> i32 {
     let carried = "carry a b k: the k-th broadcast of base a reaches base b. A base numbers its broadcasts from 1; a base that starts";
     let numbers = "broadcasts its Announce (1) and the Verify of its own identifier (2).";
+    let forged = "forge a b: bytes arrive at base b as if from base a.";
     let certified = "certified: the own identifier and those announced on a link.";
     let sum = "sum: for each of them one, and one for each link that holds a Verify of it.";
     let suspects = "suspects: pairs of certified identifiers where the link that announced one holds no Verify of the other.";
-    for sentence in [format!("{carried} {numbers}"), format!("{certified} {sum}"), suspects.to_string()] {
-        for line in wrapped_to(&sentence, PLAIN, WIDTH) {
+    let tally = "tally: links that hold a Correct-Final or a Verify-Final of the list that has just arrived.";
+    let correct_finals = "C-Finals: those of them that hold a Correct-Final.";
+    let events = [format!("{carried} {numbers}"), forged.to_string()];
+    let checks = [format!("{certified} {sum}"), suspects.to_string(), format!("{tally} {correct_finals}")];
+    for sentence in events.iter().chain(&checks) {
+        for line in wrapped_to(sentence, PLAIN, WIDTH) {
             svg.text("quiet", Anchor::Start, MARGIN, y, &line);
             y += 15;
         }
@@ -83,11 +98,13 @@ fn block(svg: &mut Svg, x: i32, top: i32, heading: &str, indent: i32, lines: &[&
     }
 }
 
-fn messages(svg: &mut Svg, trace: &Trace, x: i32, top: i32) {
+fn messages(svg: &mut Svg, trace: &Trace, names: &Names, x: i32, top: i32) {
     let id = trace.ids.first().copied().unwrap_or(500);
-    let short = [format!("A {id}"), format!("V {id}"), "C L".to_string(), "F L".to_string()];
+    let list = names.lists().first().map_or("L".to_string(), |(list, _)| names.list(list));
+    let short = [format!("A {id}"), format!("V {id}"), format!("C {list}"), format!("F {list}")];
+    let of_list = |kind: &str| format!("{kind} of list {list}");
     let indent = short.iter().map(|name| width_of(name, FIXED)).max().unwrap_or(0) + 8;
-    block(svg, x, top, "Messages", indent, &["Announce", "Verify", "Correct-Final", "Verify-Final"]);
+    block(svg, x, top, "Messages", indent, &["Announce", "Verify", &of_list("Correct-Final"), &of_list("Verify-Final")]);
     for (i, name) in short.iter().enumerate() {
         svg.text("fixed", Anchor::Start, x, top + (i as i32 + 1) * LINE, name);
     }

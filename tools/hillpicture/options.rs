@@ -15,7 +15,9 @@ pub fn of(words: &[String]) -> Result<Wish, String> {
         match word.as_str() {
             "--pages" => pages = true,
             "--without-stopped" => cut.without_stopped = true,
-            "--lines" => cut.lines = Some(words.next().and_then(|word| lines_of(word)).ok_or("--lines takes A-B, as 40-90")?),
+            "--lines" => {
+                cut.lines = Some(words.next().and_then(|word| lines_of(word)).ok_or("--lines takes A-B, as 40-90, or one line, as 42")?)
+            }
             "--bases" => cut.bases = Some(words.next().and_then(|word| bases_of(word)).ok_or("--bases takes B,B.., as 1,3,4")?),
             other => return Err(format!("takes no argument {other:?}")),
         }
@@ -24,7 +26,7 @@ pub fn of(words: &[String]) -> Result<Wish, String> {
 }
 
 fn lines_of(word: &str) -> Option<(usize, usize)> {
-    let (first, last) = word.split_once('-')?;
+    let (first, last) = word.split_once('-').unwrap_or((word, word));
     let (first, last) = (first.parse().ok()?, last.parse().ok()?);
     (first <= last).then_some((first, last))
 }

@@ -55,6 +55,7 @@ struct Reader {
     faulty: Vec<(usize, usize)>,
     events: Vec<Event>,
     report: Vec<State>,
+    pairs: Vec<String>,
     end: Option<End>,
 }
 
@@ -149,10 +150,13 @@ impl Reader {
                 self.report.push(state_of(state, self.ids.len())?);
                 return in_turn.then_some(());
             }
-            // Each message that waits; the report has their number.
-            ["waiting", "from", "base", ..] if self.has_ids() && self.report.is_empty() => {}
+            // The messages that wait between two bases; the report has their number.
+            ["waiting", ref pair @ ..] if pair.first() == Some(&"from") && self.has_ids() && self.report.is_empty() => {
+                self.pairs.push(pair.join(" "));
+            }
             ["waiting", waiting] if self.has_ids() && self.report.len() == self.ids.len() => {
-                self.end = Some(End::Report { bases: std::mem::take(&mut self.report), waiting: waiting.parse().ok()? });
+                let (bases, pairs) = (std::mem::take(&mut self.report), std::mem::take(&mut self.pairs));
+                self.end = Some(End::Report { bases, waiting: waiting.parse().ok()?, pairs });
             }
             _ => return None,
         }

@@ -21,13 +21,11 @@ pub enum End {
     Report {
         bases: Vec<State>,
         waiting: usize,
+        /// "from base 1 to base 3: 1 2"
+        pairs: Vec<String>,
     },
     /// With what the trace tells about the line, if anything.
-    Refused {
-        number: usize,
-        line: usize,
-        told: Vec<String>,
-    },
+    Refused { number: usize, line: usize, told: Vec<String> },
 }
 
 #[derive(Clone, PartialEq, Eq)]
