@@ -3,7 +3,7 @@
 use crate::chart::Chart;
 use crate::cut::{bases_in_words, Shown};
 use crate::layout::{broken_to, wrapped_to, FIXED, MARGIN, PLAIN};
-use crate::names::Names;
+use crate::names::{Names, NO_BREAK};
 use crate::refusals::meaning;
 use crate::svg::{Anchor, Svg};
 use crate::trace::{End, State, Stop, Trace};
@@ -166,11 +166,15 @@ fn states(trace: &Trace, shown: &Shown, names: &Names) -> Vec<String> {
         out.push(format!("Waiting: {waiting} ({each})."));
         match pairs.len() {
             0 => {}
-            1..=MOST_PAIRS => out.push(format!("The broadcasts' numbers, {}.", pairs.join("; "))),
+            1..=MOST_PAIRS => out.push(format!("The broadcasts' numbers, {}.", unbroken(pairs).join("; "))),
             _ => out.push("The trace lists them.".to_string()),
         }
     }
     out
+}
+
+fn unbroken(phrases: &[String]) -> Vec<String> {
+    phrases.iter().map(|phrase| phrase.replace(' ', NO_BREAK)).collect()
 }
 
 /// "bases 1, 3 and 4", of those drawn

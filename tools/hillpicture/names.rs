@@ -5,7 +5,7 @@ use crate::cut::Shown;
 use crate::trace::{Broadcast, Event, Message, State, Trace};
 use std::collections::BTreeSet;
 
-const NO_BREAK: &str = "\u{a0}";
+pub const NO_BREAK: &str = "\u{a0}";
 
 pub struct Names {
     true_list: Option<Vec<u32>>,
