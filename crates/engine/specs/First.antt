@@ -1,6 +1,6 @@
 -- An arrival by the base's state: at a running base the message alone, at an idle one the two frames of the start and the message's
 -- frame behind them.
-use Prim.Native.Nat.{ℕ, _≤_, _<_}
+use Prim.Native.Nat.{ℕ, _-_, _≤_, _<_}
 use mathlib.Core.Path.{_≡_, refl, sym, ap, _∙_}
 use mathlib.Core.Logic.{_≢_}
 use mathlib.Core.List.{List, [], _∷_, _++_}
@@ -19,7 +19,8 @@ use Rattle.frame.specs.Encoding.Laws.{length-frame}
 use Rattle.protocol.specs.declared.Base.{Base}
 use Rattle.protocol.specs.declared.Outcome.{Outcome}
 use Rattle.protocol.specs.declared.Outcome.the-variants.{Accepted, Discarded}
-use Rattle.protocol.specs.Sound.{idle, stopped}
+use Rattle.protocol.specs.Sound.{idle, stopped, recordRefusal}
+use Rattle.protocol.specs.Sound.Laws.{record-passed}
 use Rattle.protocol.specs.Steps.{Answer, accepted, discarded, refused, Done, accepts, withState, begins, onMessage, arrivalStep}
 use Rattle.protocol.specs.Steps.{encodeAll, lengths, outcomeOf, outputOf}
 use Rattle.protocol.specs.Steps.Cases.{begun, afterStart}
@@ -28,7 +29,17 @@ use Rattle.change.specs.declared.Change.{Change}
 use Rattle.change.specs.Change.{changedBase, Does}
 use Rattle.change.specs.Heard.{messageIn}
 use Rattle.broadcasting.specs.Broadcasting.{behindStart}
-use Rattle.engine.specs.Settling.Frames.{encode-append}
+use Rattle.settling.specs.Settling.{withinLinks}
+use Rattle.settling.specs.Settling.Places.{within-same}
+use Rattle.settling.specs.Settling.Frames.{encode-append}
+
+-- a record that is not turned down, and one of its links
+pub record Ready (b : Base) (i : ℕ) : Type 0 where
+  pub refusal : recordRefusal b ≡ 0
+  pub here : i < b .n - 1
+
+pub ready-within : (b : Base) (i : ℕ) → Ready b i → withinLinks i ≡ i
+ready-within b i R = within-same i (omega (arith, R .here, record-passed b (R .refusal) .net .most))
 
 -- ---- the output that a message needs
 abbrev Few : ℕ → Message → Type 0

@@ -1,5 +1,5 @@
 // The calls, as what they change.
-use crate::settle::accepted_at;
+use settling::accepted_at;
 use crate::step::begin;
 use crate::step::step;
 use change::Change;

@@ -1,6 +1,6 @@
 // A message at a base in any state: an idle one starts first, a stopped one discards.
-use crate::settle::decided;
-use crate::settle::told;
+use settling::decided;
+use settling::told;
 use accepting::Accepted;
 use broadcasting::behind_start;
 use change::Change;
@@ -20,7 +20,8 @@ ghost use Rattle.limits.specs.Limits.{frameBytes, outputRoom};
 ghost use Rattle.protocol.specs.Steps.{begins, arrivalStep, outputOf};
 ghost use Rattle.change.specs.Change.{Does};
 ghost use Rattle.change.specs.Heard.{MessageIn, messageIn};
-ghost use Rattle.engine.specs.Settling.{Ready, acceptedAt};
+ghost use Rattle.settling.specs.Settling.{acceptedAt};
+ghost use Rattle.engine.specs.First.{Ready};
 
 // The two frames of a start.
 pub(crate) fn begin(base: Base, out: &mut [u8]) -> TwoLengths

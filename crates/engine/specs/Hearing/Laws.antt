@@ -22,7 +22,7 @@ use Rattle.protocol.specs.Steps.{refuses, linkRefusal, outputRefusal, arrivalSt
 use Rattle.protocol.specs.Steps.Refusals.{unless-passed, unless-refused, link-passed, output-passed}
 use Rattle.soundness.specs.Place.{placeRefusal}
 use Rattle.change.specs.Heard.{HoldsFirst, MessageIn, messageIn}
-use Rattle.engine.specs.Settling.{Ready}
+use Rattle.engine.specs.First.{Ready}
 use Rattle.engine.specs.Hearing.{messageRefusal, messageArrival}
 
 -- ---- what numbers 1 to 6 leave

@@ -2,6 +2,8 @@
 -- read arrives.
 use Rattle.engine.specs.Hearing.Bursts.{burst-down, burst-read, read-passes, read-heard}
 use Rattle.engine.specs.Hearing.Laws.{PlacePassed, place-number, place-passed, message-passed, heard-step}
+use Rattle.engine.specs.First.{ready-within}
+use Rattle.settling.specs.Settling.{acceptedAt}
 use Rattle.change.specs.Change.Laws.{does-as, refuses-does}
 use Rattle.soundness.specs.Place.{placeRefusal}
 use Rattle.reader.specs.declared.Reading.the-variants as reads
@@ -90,8 +92,7 @@ identifiers-requires : tie.Need-identifiers-requires
 identifiers-requires c κs = search needs
 
 accepted-at-requires : tie.Need-accepted-at-requires
-accepted-at-requires c κs = let P = passed (c .before .before .before) in
-    omega (arith, P .ready .here, record-passed _ (P .ready .refusal) .net .most)
+accepted-at-requires c κs = search needs
 
 step-requires : tie.Need-step-requires
 step-requires c κs =
@@ -101,7 +102,8 @@ step-requires c κs =
     let M = message-passed (a .base .n) (k .kind-in .result) (m .identifiers .result) (omega (arith, N .least)) (N .most)
     (ap length (ids m) ∙ length-array (stretch (a .base .n) (a .burst .now)))
     (read-passes (a .base) (a .link) (a .burst .now) (length (a .out .now)) _ _ _ (message k) _ (ids m)) in
-    (P .ready, (M, (P .wide, c .before .accepted-at .ensures)))
+    (P .ready, (M, (P .wide, c .before .accepted-at .ensures
+    ∙ ap (λ (i : ℕ). acceptedAt (a .base) i (k .kind-in .result) (m .identifiers .result)) (ready-within _ _ (P .ready)))))
 
 same-length : tie.Need-same-length
 same-length c = search needs

@@ -1,12 +1,15 @@
 -- `engine::changes::hear` meets its contract: numbers 1 to 6, then those of the message, then the step.
 use Rattle.engine.specs.Hearing.Laws.{PlacePassed, place-number, place-passed, place-down, message-down, message-passed, heard-step}
+use Rattle.engine.specs.First.{ready-within}
+use Rattle.settling.specs.Settling.{acceptedAt}
 use Rattle.change.specs.Change.Laws.{does-as, refuses-does}
 use Rattle.soundness.specs.Place.{placeRefusal}
 use Rattle.protocol.specs.Sound.Laws.{record-passed}
 use Rattle.limits.specs.Limits.{mostBases}
 use lib.ListN.{length}
 use native.Mathlib.Omega.{arith}
-use mathlib.Core.Path.{_≡_, sym, _∙_}
+use mathlib.Core.Path.{_≡_, sym, ap, _∙_}
+use Prim.Native.Nat.{ℕ}
 use borrow.Author.Needs.{needs}
 use Rattle.engine.proofs.changes.hear.Statement.{statement}
 use Rattle.engine.proofs.changes.hear.Tie as tie
@@ -52,8 +55,7 @@ sub-i : tie.Need-sub-i
 sub-i c = passed (c .before .before) .some
 
 accepted-at-requires : tie.Need-accepted-at-requires
-accepted-at-requires c κs = let P = passed (c .before .before) in
-    omega (arith, P .ready .here, record-passed _ (P .ready .refusal) .net .most)
+accepted-at-requires c κs = search needs
 
 step-requires : tie.Need-step-requires
 step-requires c κs =
@@ -62,7 +64,8 @@ step-requires c κs =
     let P = passed one in let N = record-passed (a .base) (P .ready .refusal) .net in
     let M = message-passed (a .base .n) (a .kind) (a .ids) (omega (arith, N .least)) (N .most) z
     (sym (c .before .before .before .message-refusal .ensures) ∙ c .before .before .if2 .left) in
-    (P .ready, (M, (P .wide, c .before .accepted-at .ensures)))
+    (P .ready, (M, (P .wide, c .before .accepted-at .ensures
+    ∙ ap (λ (k : ℕ). acceptedAt (a .base) k (a .kind) (a .ids)) (ready-within _ _ (P .ready)))))
 
 same-length : tie.Need-same-length
 same-length c = search needs

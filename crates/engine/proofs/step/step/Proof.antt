@@ -1,7 +1,8 @@
 -- `engine::step::step` meets its contract. A stopped base discards; a running one takes the message. An idle one starts first, and
 -- its first message's frame goes behind the two of the start.
-use Rattle.engine.specs.Settling.Told.{told-does}
-use Rattle.engine.specs.First.{message-room, arrival-running, behind-does}
+use Rattle.settling.specs.Settling.{decidedAt}
+use Rattle.settling.specs.Settling.Told.{told-does}
+use Rattle.engine.specs.First.{ready-within, message-room, arrival-running, behind-does}
 use Rattle.broadcasting.specs.Broadcasting.Laws.{rest-length}
 use Rattle.change.specs.Heard.{messageIn}
 use Rattle.change.specs.Change.Laws.{does-as, discards-does}
@@ -19,8 +20,8 @@ use Rattle.limits.specs.Limits.{mostBases}
 use lib.ListN.{length, take, drop}
 use borrow.Author.Tests.{le-leb, eq-eqb}
 use native.Mathlib.Omega.{arith}
-use mathlib.Core.Path.{_≡_, refl, ap}
-use Prim.Native.Nat.{_+_, _-_}
+use mathlib.Core.Path.{_≡_, refl, ap, _∙_}
+use Prim.Native.Nat.{ℕ, _+_, _-_}
 use borrow.Author.Needs.{needs}
 use Rattle.engine.proofs.step.step.Statement.{statement}
 use Rattle.engine.proofs.step.step.Tie as tie
@@ -37,8 +38,12 @@ returns c = let b = c .before .before .before .before .args .base in
     does-as (arrival-stopped b _ _ (le-leb 2 _ (c .before .if1 .taken))) (discards-does b _ (c .discarded .ensures))
 
 decided-requires : tie.Need-decided-requires
-decided-requires c κs = let s = c .before .before .before in
-    omega (arith, s .pre .0 .here, record-passed (s .args .base) (s .pre .0 .refusal) .net .most)
+decided-requires c κs = search needs
+
+decision : (c : tie.After-decided) → let a = c .before .before .before .before .args in
+    c .decided .result ≡ decidedAt (a .base) (a .i) (a .accepted) (a .kind) (a .ids)
+decision c = let s = c .before .before .before .before in let a = s .args in
+    c .decided .ensures ∙ ap (λ (k : ℕ). decidedAt (a .base) k (a .accepted) (a .kind) (a .ids)) (ready-within (a .base) (a .i) (s .pre .0))
 
 told-requires : tie.Need-told-requires
 told-requires c κs = search needs
@@ -54,7 +59,7 @@ returns-2 c =
     let N = record-passed (a .base) (s .pre .0 .refusal) .net in
     does-as (arrival-running _ _ _ (one .if1 .left) (c .before .before .before .before .if2 .taken))
     (told-does (a .base) (a .i) (a .kind) (a .ids) (a .out .now) (record { net = N; here = s .pre .0 .here }) (s .pre .1 .0) (ids-long s)
-    (a .accepted) _ (s .pre .1 .1 .1) (d .decided .ensures)
+    (a .accepted) _ (s .pre .1 .1 .1) (decision d)
     (omega (arith, s .pre .1 .1 .0, message-room (begun (a .base)) (a .i) (a .kind) (a .ids) N)) _ _ (w .0) (w .1))
 
 begin-requires : tie.Need-begin-requires
@@ -111,7 +116,7 @@ returns-3 c =
     (messageIn (b .n) (a .kind) (a .ids)) .brief .small in
     let o = w .last .1 .0 in let k = w .result .front + w .result .next in
     let R = told-does b (a .i) (a .kind) (a .ids) (take (length o - k) (drop k o))
-    (record { net = N; here = s .pre .0 .here }) (s .pre .1 .0) (ids-long s) (a .accepted) _ (s .pre .1 .1 .1) (d .decided .ensures)
+    (record { net = N; here = s .pre .0 .here }) (s .pre .1 .0) (ids-long s) (a .accepted) _ (s .pre .1 .1 .1) (decision d)
     (omega (arith, s .pre .1 .1 .0, rest-length o k, w .kept, small, front, next)) _ _ (t .ensures .0) (t .ensures .1) in
     does-as (arrival-idle b (a .i) _ still)
     (behind-does b (onMessage (begun b) (a .i) (messageIn (b .n) (a .kind) (a .ids)))

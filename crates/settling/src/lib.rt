@@ -1,5 +1,5 @@
 // A message at a base that runs, or that has just started: whether it is accepted, what the base then decides, what it broadcasts. The
-// record is read before anything is written.
+// record is read before anything is written. A place past the last link stands for the last.
 use accepting::Accepted;
 use accepting::accept;
 use broadcasting::broadcast;
@@ -8,6 +8,7 @@ use change::Change;
 use deciding::Decision;
 use deciding::decide;
 use limits::MOST_BASES;
+use limits::MOST_LINKS;
 use protocol::Base;
 use protocol::Link;
 use protocol::Outcome;
@@ -19,13 +20,23 @@ ghost use Rattle.limits.specs.Limits.{mostLinks};
 ghost use Rattle.frame.specs.Encoding.{over};
 ghost use Rattle.protocol.specs.Steps.{withLink};
 ghost use Rattle.protocol.specs.Steps.Cases.{begun};
-ghost use Rattle.engine.specs.Settling.{acceptedAt, decidedAt, toldFrames, toldOutcome, toldChange};
+ghost use Rattle.settling.specs.Settling.{withinLinks, acceptedAt, decidedAt, toldFrames, toldOutcome, toldChange};
 
-pub(crate) fn accepted_at(base: Base, i: usize, kind: u8, ids: [u32; MOST_BASES]) -> Accepted
-    requires { ⌜ i < mostLinks ⌝ }
-    ensures { λ r. ⌜ r ≡ acceptedAt base i kind ids ⌝ }
+fn within_links(i: usize) -> usize
+    ensures { λ r. ⌜ r ≡ withinLinks i ⌝ }
 {
-    let link = base.links[i];
+    if i < MOST_LINKS {
+        return i;
+    }
+    MOST_LINKS - 1
+}
+
+// Whether a message is accepted at a link, and the link then.
+pub fn accepted_at(base: Base, i: usize, kind: u8, ids: [u32; MOST_BASES]) -> Accepted
+    ensures { λ r. ⌜ r ≡ acceptedAt base (withinLinks i) kind ids ⌝ }
+{
+    let at = within_links(i);
+    let link = base.links[at];
     let g = ids[0];
     accept(base.n, certifies(base, g), link, kind, ids)
 }
@@ -40,15 +51,15 @@ fn running_with(base: Base, i: usize, link: Link) -> Base
     next
 }
 
-pub(crate) fn decided(
+// What the base decides once the link holds the message; nothing where the message is discarded.
+pub fn decided(
     base: Base,
     i: usize,
     accepted: Accepted,
     kind: u8,
     ids: [u32; MOST_BASES],
 ) -> Decision
-    requires { ⌜ i < mostLinks ⌝ }
-    ensures { λ r. ⌜ r ≡ decidedAt base i accepted kind ids ⌝ }
+    ensures { λ r. ⌜ r ≡ decidedAt base (withinLinks i) accepted kind ids ⌝ }
 {
     if !accepted.accepted {
         let list = base.final_list;
@@ -61,7 +72,7 @@ pub(crate) fn decided(
         };
     }
     let link = accepted.link;
-    decide(running_with(base, i, link), kind, ids)
+    decide(running_with(base, within_links(i), link), kind, ids)
 }
 
 fn said(
@@ -85,7 +96,8 @@ fn said(
     broadcast(n, decision.first, ids, decision.stops, list, out)
 }
 
-pub(crate) fn told(
+// The frames that the base then broadcasts, at the front of the output, and what is to be set in its record.
+pub fn told(
     n: u8,
     i: usize,
     accepted: Accepted,

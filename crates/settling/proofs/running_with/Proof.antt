@@ -1,9 +1,9 @@
--- `engine::settle::running_with` meets its contract.
+-- `settling::running_with` meets its contract.
 use Rattle.protocol.specs.Steps.{withLink, withState}
 use mathlib.Core.Path.{refl}
 use borrow.Author.Needs.{needs}
-use Rattle.engine.proofs.settle.running_with.Statement.{statement}
-use Rattle.engine.proofs.settle.running_with.Tie as tie
+use Rattle.settling.proofs.running_with.Statement.{statement}
+use Rattle.settling.proofs.running_with.Tie as tie
 
 mul-link : tie.Need-mul-link
 mul-link c = search needs

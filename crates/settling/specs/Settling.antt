@@ -1,10 +1,10 @@
 -- A message at a base that runs, as the code takes it apart: what is accepted, what is decided, what is broadcast.
 use Prim.Native.Nat.{ℕ, _-_, _<_}
-use mathlib.Core.Path.{_≡_}
 use mathlib.Core.Bool.{Bool}
 use mathlib.Core.List.{List, [], _∷_, _++_}
-use lib.Dec.{eqb}
+use lib.Dec.{eqb, ltb}
 use lib.ListN.{length, take, getD}
+use Rattle.limits.specs.Limits.{mostLinks}
 use Rattle.limits.specs.Refusals.{NetSize}
 use Rattle.lists.specs.Choice.{choose}
 use Rattle.lists.specs.Lists.{member}
@@ -13,7 +13,6 @@ use Rattle.protocol.specs.declared.Base.{Base}
 use Rattle.protocol.specs.declared.Outcome.{Outcome}
 use Rattle.protocol.specs.declared.Outcome.the-variants.{Discarded}
 use Rattle.protocol.specs.Record.{linkAt, certified}
-use Rattle.protocol.specs.Sound.{recordRefusal}
 use Rattle.protocol.specs.Steps.{withLink}
 use Rattle.protocol.specs.Steps.Cases.{begun}
 use Rattle.change.specs.declared.Change.{Change}
@@ -23,6 +22,7 @@ use Rattle.accepting.specs.Accepting.{acceptedOn}
 use Rattle.deciding.specs.declared.Decision.{Decision}
 use Rattle.deciding.specs.Deciding.{runsOn, decisionOf}
 use Rattle.broadcasting.specs.Broadcasting.{frameIn, lastFrame, acceptedWith}
+pub mod Places
 pub mod Laws
 pub mod Frames
 pub mod Told
@@ -32,10 +32,9 @@ pub record Place (b : Base) (i : ℕ) : Type 0 where
   pub net : NetSize (b .n)
   pub here : i < b .n - 1
 
--- a record that is not turned down, and one of its links
-pub record Ready (b : Base) (i : ℕ) : Type 0 where
-  pub refusal : recordRefusal b ≡ 0
-  pub here : i < b .n - 1
+-- a place; past the last link, the last
+unfoldable pub withinLinks : ℕ → ℕ
+withinLinks i = choose (ltb i mostLinks) i (mostLinks - 1)
 
 -- the message at a link: accepted, and held there, or discarded
 unfoldable pub acceptedAt : Base → ℕ → ℕ → List ℕ → Accepted

@@ -1,11 +1,11 @@
--- `engine::settle::told` meets its contract.
-use Rattle.engine.specs.Settling.{toldChange}
+-- `settling::told` meets its contract.
+use Rattle.settling.specs.Settling.{toldChange}
 use Rattle.change.specs.declared.Change.{Change}
 use Rattle.protocol.specs.declared.Outcome.{Outcome}
 use mathlib.Core.Path.{ap}
 use borrow.Author.Needs.{needs}
-use Rattle.engine.proofs.settle.told.Statement.{statement}
-use Rattle.engine.proofs.settle.told.Tie as tie
+use Rattle.settling.proofs.told.Statement.{statement}
+use Rattle.settling.proofs.told.Tie as tie
 
 said-requires : tie.Need-said-requires
 said-requires c κs = search needs
