@@ -1,5 +1,4 @@
 // The calls, as what they change.
-use settling::accepted_at;
 use crate::step::begin;
 use crate::step::step;
 use change::Change;
@@ -19,6 +18,7 @@ use protocol::Outcome;
 use protocol::RUNNING;
 use reader::Reading;
 use reader::read;
+use settling::accepted_at;
 use soundness::refusals::place_refusal;
 use soundness::refusals::record_refusal;
 use soundness::refusals::start_refusal;

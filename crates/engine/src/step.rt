@@ -1,6 +1,4 @@
 // A message at a base in any state: an idle one starts first, a stopped one discards.
-use settling::decided;
-use settling::told;
 use accepting::Accepted;
 use broadcasting::behind_start;
 use change::Change;
@@ -11,6 +9,8 @@ use limits::MOST_BASES;
 use protocol::Base;
 use protocol::IDLE;
 use protocol::PRIME;
+use settling::decided;
+use settling::told;
 use writer::TwoLengths;
 use writer::put_two;
 ghost use Prim.Native.Nat.{_*_, _≤_};

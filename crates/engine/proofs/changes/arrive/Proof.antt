@@ -101,9 +101,17 @@ step-requires c κs =
     let N = record-passed (a .base) (P .ready .refusal) .net in
     let M = message-passed (a .base .n) (k .kind-in .result) (m .identifiers .result) (omega (arith, N .least)) (N .most)
     (ap length (ids m) ∙ length-array (stretch (a .base .n) (a .burst .now)))
-    (read-passes (a .base) (a .link) (a .burst .now) (length (a .out .now)) _ _ _ (message k) _ (ids m)) in
-    (P .ready, (M, (P .wide, c .before .accepted-at .ensures
-    ∙ ap (λ (i : ℕ). acceptedAt (a .base) i (k .kind-in .result) (m .identifiers .result)) (ready-within _ _ (P .ready)))))
+    (read-passes (a .base) (a .link) (a .burst .now) (length (a .out .now)) _ _ _ (message k) _ (ids m)) in (
+      P .ready,
+      (
+        M,
+        (
+          P .wide,
+          c .before .accepted-at .ensures
+              ∙ ap (λ (i : ℕ). acceptedAt (a .base) i (k .kind-in .result) (m .identifiers .result)) (ready-within _ _ (P .ready)),
+        ),
+      ),
+    )
 
 same-length : tie.Need-same-length
 same-length c = search needs

@@ -63,9 +63,17 @@ step-requires c κs =
     let z : length (a .ids) ≡ mostBases = s .good .1 .1 .1 .0 .1 .0 .1 in
     let P = passed one in let N = record-passed (a .base) (P .ready .refusal) .net in
     let M = message-passed (a .base .n) (a .kind) (a .ids) (omega (arith, N .least)) (N .most) z
-    (sym (c .before .before .before .message-refusal .ensures) ∙ c .before .before .if2 .left) in
-    (P .ready, (M, (P .wide, c .before .accepted-at .ensures
-    ∙ ap (λ (k : ℕ). acceptedAt (a .base) k (a .kind) (a .ids)) (ready-within _ _ (P .ready)))))
+    (sym (c .before .before .before .message-refusal .ensures) ∙ c .before .before .if2 .left) in (
+      P .ready,
+      (
+        M,
+        (
+          P .wide,
+          c .before .accepted-at .ensures
+              ∙ ap (λ (k : ℕ). acceptedAt (a .base) k (a .kind) (a .ids)) (ready-within _ _ (P .ready)),
+        ),
+      ),
+    )
 
 same-length : tie.Need-same-length
 same-length c = search needs
