@@ -1,8 +1,8 @@
 -- A message at a base that runs, as the code takes it apart: what is accepted, what is decided, what is broadcast.
-use Prim.Native.Nat.{ℕ, _-_, _<_}
+use Prim.Native.Nat.{ℕ, _-_, _<_, min}
 use mathlib.Core.Bool.{Bool}
 use mathlib.Core.List.{List, [], _∷_, _++_}
-use lib.Dec.{eqb, ltb}
+use lib.Dec.{eqb}
 use lib.ListN.{length, take, getD}
 use Rattle.limits.specs.Limits.{mostLinks}
 use Rattle.limits.specs.Refusals.{NetSize}
@@ -34,7 +34,7 @@ pub record Place (b : Base) (i : ℕ) : Type 0 where
 
 -- a place; past the last link, the last
 unfoldable pub withinLinks : ℕ → ℕ
-withinLinks i = choose (ltb i mostLinks) i (mostLinks - 1)
+withinLinks i = min i (mostLinks - 1)
 
 -- the message at a link: accepted, and held there, or discarded
 unfoldable pub acceptedAt : Base → ℕ → ℕ → List ℕ → Accepted

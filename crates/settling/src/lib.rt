@@ -9,45 +9,35 @@ use deciding::Decision;
 use deciding::decide;
 use limits::MOST_BASES;
 use limits::MOST_LINKS;
+use lists::least;
 use protocol::Base;
 use protocol::Link;
 use protocol::Outcome;
 use protocol::RUNNING;
-ghost use Prim.Native.Nat.{_<_};
 ghost use mathlib.Core.Path.{_≡_};
 ghost use lib.ListN.{length};
-ghost use Rattle.limits.specs.Limits.{mostLinks};
 ghost use Rattle.frame.specs.Encoding.{over};
 ghost use Rattle.protocol.specs.Steps.{withLink};
 ghost use Rattle.protocol.specs.Steps.Cases.{begun};
 ghost use Rattle.settling.specs.Settling.{withinLinks, acceptedAt, decidedAt, toldFrames, toldOutcome, toldChange};
 
-fn within_links(i: usize) -> usize
-    ensures { λ r. ⌜ r ≡ withinLinks i ⌝ }
-{
-    if i < MOST_LINKS {
-        return i;
-    }
-    MOST_LINKS - 1
-}
-
 // Whether a message is accepted at a link, and the link then.
 pub fn accepted_at(base: Base, i: usize, kind: u8, ids: [u32; MOST_BASES]) -> Accepted
     ensures { λ r. ⌜ r ≡ acceptedAt base (withinLinks i) kind ids ⌝ }
 {
-    let at = within_links(i);
+    let at = least(i, MOST_LINKS - 1);
     let link = base.links[at];
     let g = ids[0];
     accept(base.n, certifies(base, g), link, kind, ids)
 }
 
 fn running_with(base: Base, i: usize, link: Link) -> Base
-    requires { ⌜ i < mostLinks ⌝ }
-    ensures { λ r. ⌜ r ≡ withLink (begun base) i link ⌝ }
+    ensures { λ r. ⌜ r ≡ withLink (begun base) (withinLinks i) link ⌝ }
 {
+    let at = least(i, MOST_LINKS - 1);
     let mut next = base;
     next.state = RUNNING;
-    next.links[i] = link;
+    next.links[at] = link;
     next
 }
 
@@ -72,7 +62,7 @@ pub fn decided(
         };
     }
     let link = accepted.link;
-    decide(running_with(base, within_links(i), link), kind, ids)
+    decide(running_with(base, i, link), kind, ids)
 }
 
 fn said(

@@ -1,5 +1,5 @@
 -- `settling::accepted_at` meets its contract: whether the first identifier is certified is what `certifies` says.
-use Rattle.settling.specs.Settling.{acceptedAt}
+use Rattle.settling.specs.Settling.{acceptedAt, withinLinks}
 use Rattle.accepting.specs.Accepting.{acceptedOn}
 use Rattle.protocol.specs.Record.{linkAt}
 use mathlib.Core.Bool.{Bool}
@@ -12,12 +12,16 @@ use borrow.Author.Needs.{needs}
 use Rattle.settling.proofs.accepted_at.Statement.{statement}
 use Rattle.settling.proofs.accepted_at.Tie as tie
 
-within-links-requires : tie.Need-within-links-requires
-within-links-requires c κs = search needs
+sub-least : tie.Need-sub-least
+sub-least c = search needs
+
+least-requires : tie.Need-least-requires
+least-requires c κs = search needs
 
 -- the place is one of the links
-here : (c : tie.After-within-links) → c .within-links .result < mostLinks
-here c = let s = c .before in subst (λ (k : ℕ). k < mostLinks) (sym (c .within-links .ensures)) (within-links (s .args .i))
+here : (c : tie.After-least) → c .least .result < mostLinks
+unfolding withinLinks
+here c = subst (λ (k : ℕ). k < mostLinks) (sym (c .least .ensures)) (within-links (c .before .args .i))
 
 mul-link : tie.Need-mul-link
 mul-link c = omega (arith, here c)
@@ -35,17 +39,18 @@ accept-requires : tie.Need-accept-requires
 accept-requires c κs = search needs
 
 returns : tie.Need-returns
-unfolding acceptedAt linkAt
+unfolding acceptedAt linkAt withinLinks
 returns c = let w = c .before .before .before in let a = w .before .args in
     c .accept .ensures
-    ∙ ap (λ (t : Bool). acceptedOn (a .t1 .n) t (linkAt (a .t1) (w .within-links .result)) (a .kind) (a .t4)) (c .before .certifies .ensures)
-    ∙ ap (λ (k : ℕ). acceptedAt (a .t1) k (a .kind) (a .t4)) (w .within-links .ensures)
+    ∙ ap (λ (t : Bool). acceptedOn (a .t1 .n) t (linkAt (a .t1) (w .least .result)) (a .kind) (a .t4)) (c .before .certifies .ensures)
+    ∙ ap (λ (k : ℕ). acceptedAt (a .t1) k (a .kind) (a .t4)) (w .least .ensures)
 
 pub accepted-at-spec : {M : Type 1} → statement M
 accepted-at-spec =
     tie.close
     (tie.spec
-    within-links-requires
+    sub-least
+    least-requires
     mul-link
     element-copy-out-link
     array-read-g
