@@ -1,11 +1,11 @@
 // The lines of events: the next line of a schedule on the net of the lines before it.
+use event_forms::event_line;
 use events::Reached;
 use faulty_links::Faulty;
 use hexadecimal::hex_bytes;
 use limits::MOST_BASES;
 use limits::refusal::FORM;
 use lines::event::Line;
-use lines::event::event_line;
 use net::StoredNet;
 use node::Node;
 ghost use mathlib.Core.Path.{_≡_};

@@ -1,9 +1,9 @@
 // The lines of events: each is taken by the replay's own step, and shown by what the net was before it.
 use crate::line::show_line;
+use event_forms::event_line;
 use event_lines::line_step;
 use hexadecimal::hex_bytes;
 use lines::event::Line;
-use lines::event::event_line;
 use net::StoredNet;
 use net::nodes::node_at;
 use node::log::broadcast;

@@ -11,7 +11,7 @@ pub enum Two {
 }
 
 // Two numbers with a space between them, the second closed by the byte `close`.
-pub(crate) fn two_at(s: &[u8], at: usize, close: u8) -> Two
+pub fn two_at(s: &[u8], at: usize, close: u8) -> Two
     ensures { λ r. ⌜ r ≡ twoAt (now (s .entry)) at close ⌝ }
 {
     let Number::Value(a, next) = field_at(s, at, b' ') else {
@@ -24,7 +24,7 @@ pub(crate) fn two_at(s: &[u8], at: usize, close: u8) -> Two
 }
 
 // Whether b is one of the bases 1 to n.
-pub(crate) fn is_base(n: u8, b: u32) -> bool
+pub fn is_base(n: u8, b: u32) -> bool
     ensures { λ r. ⌜ r ≡ isBase n b ⌝ }
 {
     let most = n as u32;
@@ -35,7 +35,7 @@ pub(crate) fn is_base(n: u8, b: u32) -> bool
 }
 
 // Whether a and b are two different bases of the net.
-pub(crate) fn two_bases(n: u8, a: u32, b: u32) -> bool
+pub fn two_bases(n: u8, a: u32, b: u32) -> bool
     ensures { λ r. ⌜ r ≡ twoBases n a b ⌝ }
 {
     if is_base(n, a) {

@@ -15,7 +15,8 @@ use Rattle.header.proofs.faulty_steps.Tie as tie
 
 abbrev Inv-loop : tie.InvT-loop
 Inv-loop s t most header₀ k₀ header k =
-    (k ≤ most) × ((most ≡ t + 1) × ((header .line ≤ mostNamedLine + k) × (begunNet header ≡ repeat k (faultyStep replaying s) (begunNet header₀))))
+    (k ≤ most) × ((most ≡ t + 1) × ((header .line ≤ mostNamedLine + k)
+    × (begunNet header ≡ repeat k (faultyStep replaying s) (begunNet header₀))))
 
 abbrev μ-loop : tie.MeasureT-loop
 μ-loop s t most header₀ k₀ header k = most - k

@@ -18,3 +18,6 @@ two-range n a b e =
     let p = and-true (isBase n a) (and (isBase n b) (not (eqb a b))) e in
     let q = and-true (isBase n b) (not (eqb a b)) (p .1) in
     (p .0, (q .0, eqb-false a b (not-true (eqb a b) (q .1))))
+
+pub two-most : (n a b : ℕ) → twoBases n a b ≡ true → (a ≤ n) × (b ≤ n)
+two-most n a b e = let p = two-range n a b e in (net-base-range n a (p .0) .1, net-base-range n b (p .1 .0) .1)

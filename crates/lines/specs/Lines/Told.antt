@@ -72,6 +72,15 @@ pub hex-ind : {A : Type 0} (P : A → Type 0) (x : Hex) {none : A} {read : ℕ �
 hex-ind P hex.Bad Q q n r = n
 hex-ind P (hex.Bytes k p) Q q n r = r k p q
 
+-- ---- a reader behind another: what it tells begins where the first ended
+behind-word : {A : Type 0} (P : A → Type 0) (s : List ℕ) (p : ℕ) (word : List ℕ) {none : A} {read : ℕ → A}
+    → P none → ((q : ℕ) → p ≤ q → P (read q)) → P (afterWord (wordAt s p word) none read)
+behind-word P s p word n r = word-ind P (wordAt s p word) (Behind p) (word-behind s p word) n r
+
+behind-field : {A : Type 0} (P : A → Type 0) (s : List ℕ) (p close : ℕ) {none : A} {read : ℕ → ℕ → A}
+    → P none → ((v q : ℕ) → v ≤ mostNumber → p < q → P (read v q)) → P (afterNumber (fieldAt s p close) none read)
+behind-field P s p close n r = number-ind P (fieldAt s p close) (Field p) (field-within s p close) n (λ v q f. r v q (f .0) (f .1))
+
 -- ---- two numbers
 abbrev pub TwoTold : ℕ → Two → Type 0
 TwoTold p Neither = Unit {0}
@@ -80,16 +89,18 @@ TwoTold p (Both a b q) = (a ≤ mostNumber) × ((b ≤ mostNumber) × (p < q))
 two-told : (s : List ℕ) (p close : ℕ) → TwoTold p (twoAt s p close)
 unfolding twoAt
 two-told s p close =
-    number-ind (TwoTold p) (fieldAt s p space) (Field p) (field-within s p space) tt
-    (λ a q f. number-ind (TwoTold p)
-    (fieldAt s q close) (Field q) (field-within s q close) tt (λ b r g. (f .0, (g .0, omega (arith, f .1, g .1)))))
+    behind-field (TwoTold p) s p space tt
+    (λ a q few f. behind-field (TwoTold p) s q close tt (λ b r less g. (few, (less, omega (arith, f, g)))))
+
+behind-two : {A : Type 0} (P : A → Type 0) (s : List ℕ) (p close : ℕ) {none : A} {read : ℕ → ℕ → ℕ → A}
+    → P none → ((a b q : ℕ) → b ≤ mostNumber → p < q → P (read a b q)) → P (afterTwo (twoAt s p close) none read)
+behind-two P s p close n r = two-ind P (twoAt s p close) (TwoTold p) (two-told s p close) n (λ a b q t. r a b q (t .1 .0) (t .1 .1))
 
 -- ---- the header's lines
 pub net-told : (s : List ℕ) (p : ℕ) → TwoTold p (netLine s p)
 unfolding netLine
 net-told s p =
-    word-ind (TwoTold p) (wordAt s p netWord)
-    (Behind p) (word-behind s p netWord) tt (λ q w. further (twoAt s q lineFeed) q w (two-told s q lineFeed))
+    behind-word (TwoTold p) s p netWord tt (λ q w. further (twoAt s q lineFeed) q w (two-told s q lineFeed))
   where
     further : (x : Two) (q : ℕ) → p ≤ q → TwoTold q x → TwoTold p x
     further Neither q w t = tt
@@ -98,9 +109,9 @@ net-told s p =
 pub id-told : (base : ℕ) (s : List ℕ) (p : ℕ) → Field p (idLine base s p)
 unfolding idLine
 id-told base s p =
-    word-ind (Field p) (wordAt s p idWord) (Behind p) (word-behind s p idWord) tt
-    (λ q w. two-ind (Field p) (twoAt s q lineFeed) (TwoTold q) (two-told s q lineFeed) tt
-    (λ b v r t. choose-ind (Field p) (eqb b base) (λ _. (t .1 .0, omega (arith, w, t .1 .1))) (λ _. tt)))
+    behind-word (Field p) s p idWord tt
+    (λ q w. behind-two (Field p) s q lineFeed tt
+    (λ b v r few t. choose-ind (Field p) (eqb b base) (λ _. (few, omega (arith, w, t))) (λ _. tt)))
 
 abbrev pub FaultyTold : ℕ → ℕ → Two → Type 0
 FaultyTold n p Neither = Unit {0}
@@ -109,13 +120,13 @@ FaultyTold n p (Both a b q) = (isBase n a ≡ true) × ((isBase n b ≡ true) ×
 pub faulty-told : (n : ℕ) (s : List ℕ) (p : ℕ) → FaultyTold n p (faultyLine n s p)
 unfolding faultyLine
 faulty-told n s p =
-    word-ind (FaultyTold n p) (wordAt s p faultyWord) (Behind p) (word-behind s p faultyWord) tt
-    (λ q w. two-ind (FaultyTold n p) (twoAt s q lineFeed) (TwoTold q) (two-told s q lineFeed) tt
-    (λ a b r t. choose-ind (FaultyTold n p) (and (isBase n a) (and (isBase n b) (ltb a b)))
+    behind-word (FaultyTold n p) s p faultyWord tt
+    (λ q w. behind-two (FaultyTold n p) s q lineFeed tt
+    (λ a b r _ t. choose-ind (FaultyTold n p) (and (isBase n a) (and (isBase n b) (ltb a b)))
     (λ e.
     let x = and-true (isBase n a) (and (isBase n b) (ltb a b)) e in
     let y = and-true (isBase n b) (ltb a b) (x .1) in
-    (x .0, (y .0, (ltb-true a b (y .1), omega (arith, w, t .1 .1)))))
+    (x .0, (y .0, (ltb-true a b (y .1), omega (arith, w, t)))))
     (λ _. tt)))
 
 -- ---- the lines of events
@@ -128,30 +139,30 @@ EventTold n s p Wrong = Unit {0}
 start-told : (n : ℕ) (s : List ℕ) (p q : ℕ) → p ≤ q → EventTold n s p (startFields n s q)
 unfolding startFields
 start-told n s p q w =
-    number-ind (EventTold n s p) (fieldAt s q lineFeed) (Field q) (field-within s q lineFeed) tt
-    (λ b r f. choose-ind (EventTold n s p) (isBase n b) (λ e. (e, omega (arith, f .1))) (λ _. tt))
+    behind-field (EventTold n s p) s q lineFeed tt
+    (λ b r _ f. choose-ind (EventTold n s p) (isBase n b) (λ e. (e, omega (arith, f))) (λ _. tt))
 
 carry-told : (n : ℕ) (s : List ℕ) (p q : ℕ) → p ≤ q → EventTold n s p (carryFields n s q)
 unfolding carryFields
 carry-told n s p q w =
-    two-ind (EventTold n s p) (twoAt s q space) (TwoTold q) (two-told s q space) tt
-    (λ a b r t. number-ind (EventTold n s p) (fieldAt s r lineFeed) (Field r) (field-within s r lineFeed) tt
-    (λ k x f. choose-ind (EventTold n s p) (and (leb 1 k) (twoBases n a b))
-    (λ e. let y = and-true (leb 1 k) (twoBases n a b) e in (y .1, (leb-true 1 k (y .0), omega (arith, t .1 .1, f .1))))
+    behind-two (EventTold n s p) s q space tt
+    (λ a b r _ t. behind-field (EventTold n s p) s r lineFeed tt
+    (λ k x _ f. choose-ind (EventTold n s p) (and (leb 1 k) (twoBases n a b))
+    (λ e. let y = and-true (leb 1 k) (twoBases n a b) e in (y .1, (leb-true 1 k (y .0), omega (arith, t, f))))
     (λ _. tt)))
 
 forge-told : (n : ℕ) (s : List ℕ) (p q : ℕ) → p ≤ q → EventTold n s p (forgeFields n s q)
 unfolding forgeFields
 forge-told n s p q w =
-    two-ind (EventTold n s p) (twoAt s q space) (TwoTold q) (two-told s q space) tt
-    (λ a b r t. hex-ind (EventTold n s p) (hexAt s r) (HexRange s r) (hex-burst s r) tt
-    (λ k x f. choose-ind (EventTold n s p) (twoBases n a b) (λ e. (e, (f .1 .0, (f .1 .1, omega (arith, t .1 .1, f .0))))) (λ _. tt)))
+    behind-two (EventTold n s p) s q space tt
+    (λ a b r _ t. hex-ind (EventTold n s p) (hexAt s r) (HexRange s r) (hex-burst s r) tt
+    (λ k x f. choose-ind (EventTold n s p) (twoBases n a b) (λ e. (e, (f .1 .0, (f .1 .1, omega (arith, t, f .0))))) (λ _. tt)))
 
 pub event-told : (n : ℕ) (s : List ℕ) (p : ℕ) → EventTold n s p (eventLine n s p)
 unfolding eventLine
 event-told n s p =
-    word-ind (EventTold n s p) (wordAt s p startWord) (Behind p) (word-behind s p startWord)
-    (word-ind (EventTold n s p) (wordAt s p carryWord) (Behind p) (word-behind s p carryWord)
-    (word-ind (EventTold n s p) (wordAt s p forgeWord) (Behind p) (word-behind s p forgeWord) tt (λ q w. forge-told n s p q w))
+    behind-word (EventTold n s p) s p startWord
+    (behind-word (EventTold n s p) s p carryWord
+    (behind-word (EventTold n s p) s p forgeWord tt (λ q w. forge-told n s p q w))
     (λ q w. carry-told n s p q w))
     (λ q w. start-told n s p q w)

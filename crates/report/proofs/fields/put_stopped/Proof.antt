@@ -17,7 +17,8 @@ use Rattle.report.proofs.fields.put_stopped.Statement.{statement}
 use Rattle.report.proofs.fields.put_stopped.Tie as tie
 
 sized : (c : tie.After-least) → length (c .before .before .before .before .before .args .base .«final_list») ≡ mostBases
-sized c = base-sized (c .before .before .before .before .before .args .base) _ (c .before .before .before .before .before .good .1 .1 .1 .0) .final
+sized c = base-sized (c .before .before .before .before .before .args .base)
+    _ (c .before .before .before .before .before .good .1 .1 .1 .0) .final
 
 room : (c : tie.After-least) → c .least .result ≤ length (c .before .before .before .before .before .args .base .«final_list»)
 room c = omega (arith, sized c, c .least .ensures)
@@ -63,7 +64,8 @@ returns : tie.Need-returns
 returns c = let A = put-fits (omega arith) (c .before .before .before .before .before .before .before .put-text .ensures .0)
     (c .before .before .before .before .before .before .before .put-text .ensures .1) in (
       put-as (ap (λ (l : List ℕ).
-          now (c .before .before .before .before .before .before .before .before .before .before .before .before .before .before .args .word)
+          now (c .before .before .before .before .before .before .before
+          .before .before .before .before .before .before .before .args .word)
           ++ finalText l) (list-is (c .before .before .before .before .before .before .before .before .before)))
           (put-then A (c .before .before .put-final .ensures .0)),
       omega (

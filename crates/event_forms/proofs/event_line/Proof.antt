@@ -1,9 +1,9 @@
--- `lines::event::event_line` meets its contract: the word decides.
+-- `event_forms::event_line` meets its contract: the word decides.
 use mathlib.Core.Path.{sym, _∙_}
 use Rattle.lines.specs.Lines.{eventLine}
 use borrow.Author.Needs.{needs}
-use Rattle.lines.proofs.event.event_line.Statement.{statement}
-use Rattle.lines.proofs.event.event_line.Tie as tie
+use Rattle.event_forms.proofs.event_line.Statement.{statement}
+use Rattle.event_forms.proofs.event_line.Tie as tie
 
 slice-aggregate-word-at : tie.Need-slice-aggregate-word-at
 slice-aggregate-word-at c = search needs

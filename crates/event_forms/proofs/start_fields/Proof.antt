@@ -1,12 +1,12 @@
--- `lines::event::start_fields` meets its contract: the number, and whether it is a base.
+-- `event_forms::start_fields` meets its contract: the number, and whether it is a base.
 use native.Mathlib.Omega.{arith}
 use mathlib.Core.Path.{sym, _∙_}
 use Rattle.lists.specs.Choice.{choose}
 use Rattle.lines.specs.Lines.{startFields}
 use Rattle.lines.specs.Lines.Laws.{net-base-range}
 use borrow.Author.Needs.{needs}
-use Rattle.lines.proofs.event.start_fields.Statement.{statement}
-use Rattle.lines.proofs.event.start_fields.Tie as tie
+use Rattle.event_forms.proofs.start_fields.Statement.{statement}
+use Rattle.event_forms.proofs.start_fields.Tie as tie
 
 field-at-requires : tie.Need-field-at-requires
 field-at-requires c κs = search needs

@@ -1,12 +1,12 @@
--- `lines::event::forge_fields` meets its contract: the two numbers, the bytes, and the test of the bases.
+-- `event_forms::forge_fields` meets its contract: the two numbers, the bytes, and the test of the bases.
 use native.Mathlib.Omega.{arith}
 use mathlib.Core.Path.{sym, _∙_}
 use Rattle.lists.specs.Choice.{choose}
 use Rattle.lines.specs.Lines.{forgeFields}
-use Rattle.lines.specs.Lines.Laws.{net-base-range, two-range}
+use Rattle.lines.specs.Lines.Laws.{two-most}
 use borrow.Author.Needs.{needs}
-use Rattle.lines.proofs.event.forge_fields.Statement.{statement}
-use Rattle.lines.proofs.event.forge_fields.Tie as tie
+use Rattle.event_forms.proofs.forge_fields.Statement.{statement}
+use Rattle.event_forms.proofs.forge_fields.Tie as tie
 
 two-at-requires : tie.Need-two-at-requires
 two-at-requires c κs = search needs
@@ -45,18 +45,16 @@ cast-t13 : tie.Need-cast-t13
 cast-t13 c =
     omega (
       arith,
-      net-base-range (c .before .before .before .before .before .before .before .before .before .before .before .args .n)
-          _ (two-range (c .before .before .before .before .before .before .before .before .before .before .before .args .n)
-          _ _ (sym (c .before .two-bases .ensures) ∙ c .if1 .taken) .0) .1,
+      two-most (c .before .before .before .before .before .before .before .before .before .before .before .args .n)
+          _ _ (sym (c .before .two-bases .ensures) ∙ c .if1 .taken) .0,
     )
 
 cast-t14 : tie.Need-cast-t14
 cast-t14 c =
     omega (
       arith,
-      net-base-range (c .before .before .before .before .before .before .before .before .before .before .before .args .n)
-          _ (two-range (c .before .before .before .before .before .before .before .before .before .before .before .args .n)
-          _ _ (sym (c .before .two-bases .ensures) ∙ c .if1 .taken) .1 .0) .1,
+      two-most (c .before .before .before .before .before .before .before .before .before .before .before .args .n)
+          _ _ (sym (c .before .two-bases .ensures) ∙ c .if1 .taken) .1,
     )
 
 returns-3 : tie.Need-returns-3

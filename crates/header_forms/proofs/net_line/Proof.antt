@@ -1,9 +1,9 @@
--- `lines::header::net_line` meets its contract: the word, and two numbers behind it.
+-- `header_forms::net_line` meets its contract: the word, and two numbers behind it.
 use mathlib.Core.Path.{sym, _∙_}
 use Rattle.lines.specs.Lines.{netLine}
 use borrow.Author.Needs.{needs}
-use Rattle.lines.proofs.header.net_line.Statement.{statement}
-use Rattle.lines.proofs.header.net_line.Tie as tie
+use Rattle.header_forms.proofs.net_line.Statement.{statement}
+use Rattle.header_forms.proofs.net_line.Tie as tie
 
 slice-aggregate-word-at : tie.Need-slice-aggregate-word-at
 slice-aggregate-word-at c = search needs

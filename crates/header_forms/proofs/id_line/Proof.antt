@@ -1,11 +1,11 @@
--- `lines::header::id_line` meets its contract: the word, two numbers behind it, and the base that the line is to name.
+-- `header_forms::id_line` meets its contract: the word, two numbers behind it, and the base that the line is to name.
 use mathlib.Core.Path.{sym, _∙_}
 use borrow.Author.Tests.{eq-eqb, ne-eqb}
 use Rattle.lists.specs.Choice.{choose}
 use Rattle.lines.specs.Lines.{idLine}
 use borrow.Author.Needs.{needs}
-use Rattle.lines.proofs.header.id_line.Statement.{statement}
-use Rattle.lines.proofs.header.id_line.Tie as tie
+use Rattle.header_forms.proofs.id_line.Statement.{statement}
+use Rattle.header_forms.proofs.id_line.Tie as tie
 
 slice-aggregate-word-at : tie.Need-slice-aggregate-word-at
 slice-aggregate-word-at c = search needs

@@ -1,13 +1,13 @@
--- `lines::event::carry_fields` meets its contract: the three numbers, and the tests of the bases and of the broadcast's number.
+-- `event_forms::carry_fields` meets its contract: the three numbers, and the tests of the bases and of the broadcast's number.
 use native.Mathlib.Omega.{arith}
 use mathlib.Core.Path.{sym, _∙_}
 use borrow.Author.Tests.{lt-leb, le-leb}
 use Rattle.lists.specs.Choice.{choose, and}
 use Rattle.lines.specs.Lines.{carryFields}
-use Rattle.lines.specs.Lines.Laws.{net-base-range, two-range}
+use Rattle.lines.specs.Lines.Laws.{two-most}
 use borrow.Author.Needs.{needs}
-use Rattle.lines.proofs.event.carry_fields.Statement.{statement}
-use Rattle.lines.proofs.event.carry_fields.Tie as tie
+use Rattle.event_forms.proofs.carry_fields.Statement.{statement}
+use Rattle.event_forms.proofs.carry_fields.Tie as tie
 
 two-at-requires : tie.Need-two-at-requires
 two-at-requires c κs = search needs
@@ -56,18 +56,16 @@ cast-t14 : tie.Need-cast-t14
 cast-t14 c =
     omega (
       arith,
-      net-base-range (c .before .before .before .before .before .before .before .before .before .before .before .before .args .n)
-          _ (two-range (c .before .before .before .before .before .before .before .before .before .before .before .before .args .n)
-          _ _ (sym (c .before .two-bases .ensures) ∙ c .if2 .taken) .0) .1,
+      two-most (c .before .before .before .before .before .before .before .before .before .before .before .before .args .n)
+          _ _ (sym (c .before .two-bases .ensures) ∙ c .if2 .taken) .0,
     )
 
 cast-t15 : tie.Need-cast-t15
 cast-t15 c =
     omega (
       arith,
-      net-base-range (c .before .before .before .before .before .before .before .before .before .before .before .before .args .n)
-          _ (two-range (c .before .before .before .before .before .before .before .before .before .before .before .before .args .n)
-          _ _ (sym (c .before .two-bases .ensures) ∙ c .if2 .taken) .1 .0) .1,
+      two-most (c .before .before .before .before .before .before .before .before .before .before .before .before .args .n)
+          _ _ (sym (c .before .two-bases .ensures) ∙ c .if2 .taken) .1,
     )
 
 returns-4 : tie.Need-returns-4

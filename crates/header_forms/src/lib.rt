@@ -1,12 +1,12 @@
 // The lines of a schedule's header.
-use crate::bases::Two;
-use crate::bases::is_base;
-use crate::bases::two_at;
+use lines::bases::Two;
+use lines::bases::is_base;
+use lines::bases::two_at;
 use text::number::Number;
 use text::word::Word;
 use text::word::word_at;
 ghost use mathlib.Core.Path.{_≡_};
 ghost use Rattle.lines.specs.Lines.{netLine, idLine, faultyLine};
 
 // `net n t`
 pub fn net_line(s: &[u8], at: usize) -> Two

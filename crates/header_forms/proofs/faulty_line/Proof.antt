@@ -1,11 +1,11 @@
--- `lines::header::faulty_line` meets its contract: the word, two numbers behind it, and the tests of the two bases.
+-- `header_forms::faulty_line` meets its contract: the word, two numbers behind it, and the tests of the two bases.
 use mathlib.Core.Path.{sym, _∙_}
 use borrow.Author.Tests.{lt-ltb, le-ltb}
 use Rattle.lists.specs.Choice.{choose, and}
 use Rattle.lines.specs.Lines.{faultyLine}
 use borrow.Author.Needs.{needs}
-use Rattle.lines.proofs.header.faulty_line.Statement.{statement}
-use Rattle.lines.proofs.header.faulty_line.Tie as tie
+use Rattle.header_forms.proofs.faulty_line.Statement.{statement}
+use Rattle.header_forms.proofs.faulty_line.Tie as tie
 
 slice-aggregate-word-at : tie.Need-slice-aggregate-word-at
 slice-aggregate-word-at c = search needs
