@@ -96,3 +96,17 @@ pub(crate) fn two_spaces(line: &[u8]) -> usize {
     }
     i
 }
+
+// Whether every second byte is zero, from the first on where the remainder is 0 and else from the second, and no other byte.
+pub(crate) fn alternates(bytes: &[u8], remainder: usize) -> bool {
+    let mut i: usize = 0;
+    while i < bytes.len() {
+        let zero = bytes[i] == 0;
+        let wanted = i % 2 == remainder;
+        if zero != wanted {
+            return false;
+        }
+        i += 1;
+    }
+    true
+}

@@ -2,6 +2,7 @@
 use crate::RefusedLine;
 use crate::bytes::NOT_PRINTING;
 use crate::bytes::SPACE;
+use crate::bytes::alternates;
 use crate::bytes::place_of;
 use crate::bytes::spaces;
 use crate::bytes::two_spaces;
@@ -15,6 +16,7 @@ use crate::forms::FAULTY;
 use crate::forms::ID;
 use crate::forms::NET;
 use crate::line::begins;
+use crate::line::line_at;
 use crate::sentences;
 use crate::sentences::NONE;
 use limits::LONGEST_SCHEDULE;
@@ -50,26 +52,43 @@ fn carriage_return(line: &[u8], place: usize, ended: bool) -> Cause {
     said(sentences::CARRIAGE_RETURN_LAST)
 }
 
-// The beginning of a text in UTF-16, by its byte-order mark or by its first letter.
-fn is_utf_16(line: &[u8]) -> bool {
+// How many bytes of UTF-16's byte-order mark stand before a line.
+fn mark_length(line: &[u8]) -> usize {
     if begins(line, b"\xff\xfe") {
-        return true;
+        return 2;
     }
     if begins(line, b"\xfe\xff") {
+        return 2;
+    }
+    0
+}
+
+// Whether every second byte is zero, and two are at least.
+fn is_utf_16(bytes: &[u8]) -> bool {
+    if bytes.len() < 4 {
+        return false;
+    }
+    if alternates(bytes, 0) {
         return true;
     }
-    if begins(line, b"n\x00") {
-        return true;
+    alternates(bytes, 1)
+}
+
+// A line of UTF-16 behind its mark. One that is empty there has one byte at most, and is told by the next.
+fn is_wide(line: &[u8], next: &[u8]) -> bool {
+    let bytes = part(line, mark_length(line), line.len());
+    if bytes.len() < 2 {
+        return is_utf_16(next);
     }
-    begins(line, b"\x00n")
+    is_utf_16(bytes)
 }
 
 // What an editor puts before a text, or makes of it.
-fn encoding(line: &[u8]) -> Cause {
+fn encoding(line: &[u8], next: &[u8]) -> Cause {
     if begins(line, b"\xef\xbb\xbf") {
         return said(sentences::BYTE_ORDER_MARK);
     }
-    if is_utf_16(line) {
+    if is_wide(line, next) {
         return said(sentences::UTF_16);
     }
     none()
@@ -88,10 +107,6 @@ fn odd_bytes(line: &[u8], ended: bool) -> Cause {
     if line.len() <= place {
         return none();
     }
-    let cause = encoding(line);
-    if cause.sentence != NONE {
-        return cause;
-    }
     odd_byte(line, place, ended)
 }
 
@@ -104,7 +119,7 @@ fn space_at_the_end(line: &[u8]) -> bool {
         return false;
     }
     if begins(line, b"forge ") {
-        return 3 < spaces(line);
+        return spaces(line) != 3;
     }
     true
 }
@@ -196,6 +211,15 @@ fn broken(kind: u8, s: &[u8], line: &[u8], refused: RefusedLine) -> Cause {
     ended_line(kind, s, line, refused)
 }
 
+fn text_cause(kind: u8, s: &[u8], line: &[u8], refused: RefusedLine) -> Cause {
+    let next = plus(plus(refused.at, line.len()), 1);
+    let cause = encoding(line, line_at(s, next));
+    if cause.sentence != NONE {
+        return cause;
+    }
+    broken(kind, s, line, refused)
+}
+
 pub(crate) fn form_cause(kind: u8, s: &[u8], line: &[u8], refused: RefusedLine) -> Cause {
     if LONGEST_SCHEDULE < s.len() {
         return said(sentences::TOO_LONG);
@@ -203,5 +227,5 @@ pub(crate) fn form_cause(kind: u8, s: &[u8], line: &[u8], refused: RefusedLine) 
     if s.len() <= refused.at {
         return said(sentences::ENDS_BEFORE);
     }
-    broken(kind, s, line, refused)
+    text_cause(kind, s, line, refused)
 }

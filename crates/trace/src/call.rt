@@ -80,8 +80,7 @@ fn hears(b: u8, n: u8, burst: &[u8]) {
 
 fn refused(b: u8, arrival: Arrival, length: usize, number: u8) {
     say::base(b, b" hears ");
-    output::number(length);
-    output::text(b" bytes");
+    say::byte_count(length);
     on_link(arrival, b": refused by ");
     output::number(number as usize);
     output::text(b", ");

@@ -19,6 +19,15 @@ pub(crate) fn base(b: u8, words: &[u8]) {
     text(words);
 }
 
+// `1 byte`, `2 bytes`
+pub(crate) fn byte_count(count: usize) {
+    number(count);
+    if count == 1 {
+        return text(b" byte");
+    }
+    text(b" bytes")
+}
+
 // A number, how many are needed, and words.
 pub(crate) fn needed(v: usize, asked: usize, words: &[u8]) {
     number(v);

@@ -27,7 +27,11 @@ pub fn told(schedule: &[u8], refused: Refused) -> (String, Vec<String>) {
     let causes = match refused.number {
         13 if schedule.len() > LONGEST_SCHEDULE => vec!["the schedule has more than 65,536 bytes".to_string()],
         13 if all.len() < refused.line => vec!["the schedule ends before it".to_string(), line.belongs()],
-        13 => bytes(here).map_or_else(|| line.form(here.ends_with(b"\n")), |cause| vec![cause]),
+        13 => {
+            let next = all.get(refused.line).copied().unwrap_or_default();
+            let cause = encoding(here, next).or_else(|| bytes(here));
+            cause.map_or_else(|| line.form(here.ends_with(b"\n")), |cause| vec![cause])
+        }
         number => vec![line.cause(number, schedule)],
     };
     (format!("line {}: {}", refused.line, shown(text)), causes)
@@ -62,17 +66,25 @@ fn counted(count: usize, thing: &str) -> String {
     format!("{count} {thing}{}", if count == 1 { "" } else { "s" })
 }
 
+/// What an editor puts before a text, or makes of it. Of an empty line in UTF-16 the next one tells it.
+fn encoding(line: &[u8], next: &[u8]) -> Option<String> {
+    let [line, next] = [line, next].map(|line| line.strip_suffix(b"\n").unwrap_or(line));
+    if line.starts_with(b"\xef\xbb\xbf") {
+        return Some("a byte-order mark (\\xef\\xbb\\xbf) stands at the beginning".to_string());
+    }
+    let text = [b"\xff\xfe", b"\xfe\xff"].iter().find_map(|mark| line.strip_prefix(*mark)).unwrap_or(line);
+    let text = if text.len() < 2 { next } else { text };
+    let zeros = |first| text.iter().enumerate().all(|(i, &byte)| (byte == 0) == (i % 2 == first));
+    (text.len() >= 4 && (zeros(0) || zeros(1))).then(|| "the text is in UTF-16, and each sign of a line is one byte".to_string())
+}
+
 /// Of a line with its line feed: the first byte before it that does not print.
 fn bytes(line: &[u8]) -> Option<String> {
     let place = line.iter().position(|byte| !(b' '..=b'~').contains(byte)).filter(|&place| line[place] != b'\n')?;
-    Some(match (line, &line[place..]) {
-        ([0xef, 0xbb, 0xbf, ..], _) => "a byte-order mark (\\xef\\xbb\\xbf) stands at the beginning".to_string(),
-        ([0xff, 0xfe, ..] | [0xfe, 0xff, ..] | [b'n', 0, ..] | [0, b'n', ..], _) => {
-            "the text is in UTF-16, and each sign of a line is one byte".to_string()
-        }
-        (_, b"\r\n") => "a carriage return (\\r) stands before the line feed".to_string(),
-        (_, b"\r") => "a carriage return (\\r) stands at the end, and no line feed".to_string(),
-        (_, [b'\r', ..]) => format!("byte {} is a carriage return (\\r), and only a line feed ends a line", place + 1),
+    Some(match &line[place..] {
+        b"\r\n" => "a carriage return (\\r) stands before the line feed".to_string(),
+        b"\r" => "a carriage return (\\r) stands at the end, and no line feed".to_string(),
+        [b'\r', ..] => format!("byte {} is a carriage return (\\r), and only a line feed ends a line", place + 1),
         _ => format!("byte {} is {}, which stands in no line", place + 1, visible(line[place])),
     })
 }
@@ -172,7 +184,7 @@ impl Line {
         if let Some(place) = text.find("  ") {
             return Some(format!("byte {} is a second space, and one separates two words", place + 2));
         }
-        let no_bytes = text.starts_with("forge ") && self.words.len() <= 4;
+        let no_bytes = text.starts_with("forge ") && self.words.len() == 4;
         (text.ends_with(' ') && !no_bytes).then(|| "a space stands at the end".to_string())
     }
 
