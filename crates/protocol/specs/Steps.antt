@@ -14,7 +14,6 @@ use Rattle.protocol.specs.declared.Link.{Link}
 use Rattle.protocol.specs.declared.Base.{Base}
 use Rattle.protocol.specs.declared.Outcome.{Outcome}
 use Rattle.protocol.specs.declared.Outcome.the-variants.{Accepted, Discarded, Refused}
-use Rattle.protocol.specs.declared.Step.{Step}
 use Rattle.protocol.specs.declared.Leader.{Leader}
 use Rattle.protocol.specs.declared.Leader.the-variants as leads
 use Rattle.protocol.specs.Links.{announces, holdsVerify, full}
@@ -215,9 +214,6 @@ unfoldable pub outcomeOf : Answer → List Message → Outcome
 outcomeOf accepted says = Accepted (getD (lengths says) 0 0) (getD (lengths says) 1 0) (getD (lengths says) 2 0)
 outcomeOf discarded says = Discarded (getD (lengths says) 0 0) (getD (lengths says) 1 0) (getD (lengths says) 2 0)
 outcomeOf (refused r) says = Refused r
-
-unfoldable pub stepOf : Done → Step
-stepOf d = record { outcome = outcomeOf (d .answer) (d .says); base = d .base }
 
 -- "Output bytes past them are unchanged."
 unfoldable pub outputOf : Done → List ℕ → List ℕ

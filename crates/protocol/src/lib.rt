@@ -56,12 +56,6 @@ pub enum Outcome {
     Refused(u8),
 }
 
-// The record after a call, beside its answer.
-pub struct Step {
-    pub outcome: Outcome,
-    pub base: Base,
-}
-
 // What the leader call answers.
 pub enum Leader {
     Is(u32),
