@@ -14,17 +14,23 @@
  *
  * What is not fit. No caller has to test anything first: what is not fit is turned down by its number (enum roster_refusal), and a call
  * that is turned down changes nothing and starts nobody. 1 to 6 are mistakes around the library; 7 to 12 are damaged bursts: drop them.
+ * (C cuts a number to its parameter's type before the call: a kind has 8 bits, an identifier 32.)
  *
  * What to do with an answer. The frames of an answer stand one after another at the front of the output. Send each of them, as a burst
  * of its own, on every link of the base: after a start as after an arrival, where the answer is discarded as where it is accepted. (An
  * idle base starts on its first arrival, and the two frames of its start are answered even if that arrival is discarded.) Of two frames
  * in one burst the first is skipped as what stands before a frame, and no number tells. Order and repeats do no harm.
  *
+ * Every frame has to arrive at last over every good link. The library has no clock and sends nothing again: a frame that was lost, or
+ * dropped as damaged, is sent again by the transport, which knows by its own acknowledgement. A link that loses one for ever is faulty,
+ * one of the t; if there are more, bases may run on for ever.
+ *
  * A base has stopped once its state is prime or secondary; only then does it have a final list and a leader. Send the frames of the
  * answer with which it stops as well: others need its Correct-Final. After that it discards every fit burst and has nothing to send.
  *
  * Keep the record, the frames that are not yet sent, and ROSTER_VERSION beside them, through a loss of power: a base that forgets its
- * record and starts again in the same net is outside everything that was proved.
+ * record and starts again in the same net is outside everything that was proved. Store the record and the frames of a call together, in
+ * one step, before the first of them is sent.
  */
 #ifndef ROSTER_H
 #define ROSTER_H
@@ -43,7 +49,7 @@ extern "C" {
 #define ROSTER_FEWEST_BASES 2
 #define ROSTER_MOST_BASES 16
 #define ROSTER_MOST_LINKS (ROSTER_MOST_BASES - 1)
-#define ROSTER_MOST_FAULTY(n) (((n) - 2) / 2)       /* the most that t may be in a net of n */
+#define ROSTER_MOST_FAULTY(n) (((n) - 2) / 2)       /* the most that t may be in a net of n, 2 or more */
 #define ROSTER_MOST_BROADCASTS(n) ((n) + 3)         /* frames that a base of a net of n broadcasts in its life */
 #define ROSTER_LIST_ROOM (ROSTER_MOST_BASES + 1)    /* Verify identifiers that a link has room for */
 #define ROSTER_FRAME_BYTES(count) (4 * (count) + 4) /* of a frame of so many identifiers */
@@ -55,7 +61,7 @@ extern "C" {
 #define ROSTER_LINE_ROOM (37 + 11 * ROSTER_MOST_BASES)                  /* bytes for any line of a report */
 #define ROSTER_REPORT_ROOM ((ROSTER_MOST_BASES + 1) * ROSTER_LINE_ROOM) /* bytes to lend to roster_replay */
 
-/* The most stack that a call takes, in bytes, with what its answer takes in the caller, and besides what memcpy and memset take.
+/* The most stack that a call takes, in bytes, with what its answer takes in the caller and without what memcpy and memset take.
  * tests/figures measures it and holds it to this. */
 #define ROSTER_STACK_IDLE 5000
 #define ROSTER_STACK_START 9000
@@ -135,7 +141,7 @@ typedef struct roster_named {
     uint32_t leader; /* or zero */
 } roster_named;
 
-/* The body is the 4 * count bytes of the burst from start on. */
+/* The body is the 4 * count bytes of the burst from start on. Where the call was turned down all else is zero. */
 typedef struct roster_taken {
     uint8_t refusal; /* or zero */
     uint8_t kind;
@@ -193,6 +199,7 @@ ROSTER_LOOK_AT
 size_t roster_replay(const uint8_t *schedule, size_t schedule_length, uint8_t *out, size_t out_length);
 
 /* The library's ROSTER_VERSION. */
+ROSTER_LOOK_AT
 uint32_t roster_version(void);
 
 #ifdef __cplusplus

@@ -20,7 +20,7 @@ pub const LONGEST_SCHEDULE: usize = 65536;
 pub const LINE_ROOM: usize = 37 + 11 * MOST_BASES;
 pub const REPORT_ROOM: usize = (MOST_BASES + 1) * LINE_ROOM;
 
-/// The most stack that a call takes, in bytes.
+/// The most stack that a call takes, in bytes, with what its answer takes in the caller and without what memcpy and memset take.
 pub const STACK_IDLE: usize = 5000;
 pub const STACK_START: usize = 9000;
 pub const STACK_ARRIVE: usize = 15000;
@@ -30,7 +30,7 @@ pub const STACK_WRITE: usize = 1000;
 pub const STACK_REPLAY: usize = 190000;
 pub const STACK_VERSION: usize = 200;
 
-/// The most that t may be in a net of n.
+/// The most that t may be in a net of n, 2 or more.
 pub const fn most_faulty(n: usize) -> usize {
     (n - 2) / 2
 }
@@ -176,14 +176,15 @@ pub fn idle(n: usize, t: usize, own: u32) -> Made {
     unsafe { roster_idle(n, t, own) }
 }
 
-/// Starts an idle base. Send every frame of the answer ([`frames`]) on every link.
+/// Starts an idle base. Send every frame of the answer ([`frames`]) on every link, discarded or not.
 #[inline]
 #[must_use]
 pub fn start(base: &mut Base, out: &mut [u8]) -> Answer {
     unsafe { roster_start(base, out.as_mut_ptr(), out.len()) }
 }
 
-/// A burst arrives on a link, 1 to n - 1. Send every frame of the answer ([`frames`]) on every link.
+/// A burst arrives on a link, 1 to n - 1. Send every frame of the answer ([`frames`]) on every link, discarded or not: an idle base
+/// starts on its first arrival.
 #[inline]
 #[must_use]
 pub fn arrive(base: &mut Base, link: usize, burst: &[u8], out: &mut [u8]) -> Answer {
