@@ -65,7 +65,7 @@ extern "C" {
  * tests/figures measures it and holds it to this. */
 #define ROSTER_STACK_IDLE 5000
 #define ROSTER_STACK_START 9000
-#define ROSTER_STACK_ARRIVE 15000
+#define ROSTER_STACK_ARRIVE 12000
 #define ROSTER_STACK_LEADER 8000
 #define ROSTER_STACK_READ 1000
 #define ROSTER_STACK_WRITE 1000

@@ -23,7 +23,7 @@ pub const REPORT_ROOM: usize = (MOST_BASES + 1) * LINE_ROOM;
 /// The most stack that a call takes, in bytes, with what its answer takes in the caller and without what memcpy and memset take.
 pub const STACK_IDLE: usize = 5000;
 pub const STACK_START: usize = 9000;
-pub const STACK_ARRIVE: usize = 15000;
+pub const STACK_ARRIVE: usize = 12000;
 pub const STACK_LEADER: usize = 8000;
 pub const STACK_READ: usize = 1000;
 pub const STACK_WRITE: usize = 1000;

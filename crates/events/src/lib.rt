@@ -1,20 +1,17 @@
 // A carry and a forgery, each on the nodes that it names. What is turned down, by 16 to 18 or by the base's call, leaves the base
 // that it would reach as it was. A start is the call alone (crate `node_calls`). Crate `representation` has what these do to the net.
-use decoding::identifiers;
+mod hearing;
+
+use crate::hearing::hear_burst;
+use crate::hearing::hear_frame;
 use faulty_links::Faulty;
 use faulty_links::is_good;
-use limits::IDENTIFIER_BYTES;
 use limits::refusal;
 use node::Node;
 use node::log::broadcast;
 use node::log::broadcasts;
 use node::marks::heard;
-use node::marks::mark;
-use node_calls::hear_frame;
-use node_calls::hear_message;
 use numbering::link_to;
-use reader::Reading;
-use reader::read;
 ghost use mathlib.Core.Path.{_≡_};
 ghost use Rattle.faulty_links.specs.Faulty.{pairsOf};
 ghost use Rattle.events.specs.Events.{carryRefusal, carriedTo, forgedTo};
@@ -54,21 +51,13 @@ pub fn carry(sender: Node, receiver: Node, faulty: Faulty, a: u8, b: u8, k: usiz
             node: receiver,
         };
     }
-    let told = hear_frame(receiver, link_to(b, a), broadcast(sender, k));
-    if told.refusal != 0 {
-        return Reached {
-            refusal: 0,
-            node: receiver,
-        };
-    }
-    let node = told.node;
     Reached {
         refusal: 0,
-        node: mark(node, a, k),
+        node: hear_frame(receiver, link_to(b, a), broadcast(sender, k), a, k),
     }
 }
 
-// A burst arrives at b as if from a: its reading is taken apart, and what was read arrives.
+// A burst arrives at b as if from a.
 pub fn forge(receiver: Node, links: Faulty, a: u8, b: u8, burst: &[u8]) -> Reached
     ensures { λ r. ⌜ r ≡ forgedTo receiver (pairsOf links) a b (now (burst .entry)) ⌝ }
 {
@@ -78,15 +67,8 @@ pub fn forge(receiver: Node, links: Faulty, a: u8, b: u8, burst: &[u8]) -> Reach
             node: receiver,
         };
     }
-    let base = receiver.base;
-    let Reading::Message { kind, count, start } = read(base.n as usize, burst) else {
-        return Reached {
-            refusal: 0, // "else the forged line ends with nothing changed"
-            node: receiver,
-        };
-    };
-    let ids = identifiers(&burst[start..start + IDENTIFIER_BYTES * count]);
-    let told = hear_message(receiver, link_to(b, a), kind, ids);
-    let node = told.node;
-    Reached { refusal: 0, node }
+    Reached {
+        refusal: 0, // "refusals of its burst leave the schedule running"
+        node: hear_burst(receiver, link_to(b, a), burst, a, 0),
+    }
 }

@@ -1,24 +1,19 @@
-// Calls on the record of a base of the program's net: a start, an arrival on a link, and a message that was read. The frames that a
-// call writes join the base's broadcasts.
+// Calls on the record of a base of the program's net: a start, and the arrival of a message that was read. The frames that a call writes
+// join the base's broadcasts.
 mod keep;
 
 use crate::keep::keep_three;
 use change::changed;
-use engine::changes::arrive;
-use limits::LONGEST_FRAME;
 use limits::MOST_BASES;
 use limits::OUTPUT_ROOM;
-use node::Frame;
 use node::Node;
 use protocol::Base;
 use protocol::Outcome;
 ghost use mathlib.Core.Path.{_≡_};
 ghost use lib.ListN.{length};
 ghost use Rattle.limits.specs.Limits.{outputRoom};
-ghost use Rattle.protocol.specs.Steps.{arrival};
 ghost use Rattle.protocol.specs.Steps as Steps;
 ghost use Rattle.engine.specs.Hearing.{messageArrival};
-ghost use Rattle.node.specs.Node.{written};
 ghost use Rattle.node_calls.specs.Calls.{told, Fitting, settledOf};
 
 // A base after a call on its record, beside the number by which the call was turned down, 0 for none.
@@ -63,17 +58,6 @@ pub fn start(node: Node) -> Told
     settle(node, changed(base, change), outcome, &out)
 }
 
-// A burst arrives at the base on a link.
-fn hear(node: Node, link: usize, burst: &[u8]) -> Told
-    ensures { λ r. ⌜ r ≡ told node (arrival (node .base) link (now (burst .entry)) outputRoom) ⌝ }
-{
-    let base = node.base;
-    let mut out = [0u8; OUTPUT_ROOM];
-    let change = arrive(base, link, burst, &mut out);
-    let outcome = change.outcome;
-    settle(node, changed(base, change), outcome, &out)
-}
-
 // A message that was read arrives at the base on a link: its kind, and its identifiers with zeros behind.
 pub fn hear_message(node: Node, link: usize, kind: u8, ids: [u32; MOST_BASES]) -> Told
     ensures { λ r. ⌜ r ≡ told node (messageArrival (node .base) link kind ids outputRoom) ⌝ }
@@ -83,16 +67,4 @@ pub fn hear_message(node: Node, link: usize, kind: u8, ids: [u32; MOST_BASES]) -
     let change = engine::changes::hear(base, link, kind, ids, &mut out);
     let outcome = change.outcome;
     settle(node, changed(base, change), outcome, &out)
-}
-
-// A frame arrives, as it was written.
-pub fn hear_frame(node: Node, link: usize, frame: Frame) -> Told
-    ensures { λ r. ⌜ r ≡ told node (arrival (node .base) link (written frame) outputRoom) ⌝ }
-{
-    let bytes = frame.bytes;
-    let len = frame.len;
-    if LONGEST_FRAME < len {
-        return hear(node, link, &bytes);
-    }
-    hear(node, link, &bytes[..len])
 }

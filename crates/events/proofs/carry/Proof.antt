@@ -1,5 +1,5 @@
--- `events::carry` meets its contract: turned down by 16 or 17, turned down by the call, or heard and marked.
-use Rattle.events.specs.Events.Laws.{carry-refused, carry-unheard, carry-heard}
+-- `events::carry` meets its contract: turned down by 16 or 17, or the frame arrives and is marked.
+use Rattle.events.specs.Events.Laws.{carry-refused, carry-heard}
 use borrow.Author.Needs.{needs}
 use Rattle.events.proofs.carry.Statement.{statement}
 use Rattle.events.proofs.carry.Tie as tie
@@ -20,18 +20,8 @@ hear-frame-requires : tie.Need-hear-frame-requires
 hear-frame-requires c κs = search needs
 
 returns-2 : tie.Need-returns-2
-returns-2 c = carry-unheard _ _ _ _ _ _ (c .before .before .before .before .before .before .carry-refusal .ensures)
-    (c .before .before .before .before .before .if1 .left) (c .before .before .before .before .link-to .ensures)
-    (c .before .before .before .broadcast .ensures) (c .before .before .hear-frame .ensures) (c .if2 .taken)
-
-mark-requires : tie.Need-mark-requires
-mark-requires c κs = search needs
-
-returns-3 : tie.Need-returns-3
-returns-3 c = carry-heard _ _ _ _ _ _ (c .before .before .before .before .before .before .before .before .carry-refusal .ensures)
-    (c .before .before .before .before .before .before .before .if1 .left)
-    (c .before .before .before .before .before .before .link-to .ensures) (c .before .before .before .before .before .broadcast .ensures)
-    (c .before .before .before .before .hear-frame .ensures) (c .before .before .if2 .left) (c .mark .ensures)
+returns-2 c = carry-heard _ _ _ _ _ _ (c .before .before .before .before .carry-refusal .ensures) (c .before .before .before .if1 .left)
+    (c .before .before .link-to .ensures) (c .before .broadcast .ensures) (c .hear-frame .ensures)
 
 pub carry-spec : {M : Type 1} → statement M
 carry-spec =
@@ -42,6 +32,4 @@ carry-spec =
     link-to-requires
     broadcast-requires
     hear-frame-requires
-    returns-2
-    mark-requires
-    returns-3)
+    returns-2)

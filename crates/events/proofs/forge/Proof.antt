@@ -1,28 +1,8 @@
--- `events::forge` meets its contract: turned down by 18, a burst that cannot be read, or the call with what was read.
-use Rattle.events.specs.Events.Laws.{forge-refused, forge-unread, forge-heard}
-use Prim.Native.Nat.{_+_, _*_, _≤_}
-use mathlib.Core.Path.{_≡_, sym, _∙_}
-use native.Mathlib.Omega.{arith}
-use lib.ListN.{length}
-use Rattle.limits.specs.Limits.{longestBurst}
-use Rattle.reader.specs.declared.Reading.the-variants.{Message}
-use Rattle.reader.specs.Answers.{readingOf}
-use Rattle.reader.specs.Answers.Place.{body-inside, burst-short}
+-- `events::forge` meets its contract: turned down by 18, or the burst arrives.
+use Rattle.events.specs.Events.Laws.{forge-refused, forge-heard}
 use borrow.Author.Needs.{needs}
 use Rattle.events.proofs.forge.Statement.{statement}
 use Rattle.events.proofs.forge.Tie as tie
-
-message : (c : tie.After-known-told) →
-    let a = c .before .before .before .before .before .before .before .before .before .args in
-    let m = c .before .kind .given .0 in
-    readingOf (a .receiver .base .n) (a .burst .now) ≡ Message (m .0) (m .1 .0) (m .1 .1 .0)
-message c = sym (c .before .before .before .read .ensures) ∙ c .before .kind .given .1
-
-inside : (c : tie.After-known-told) →
-    let a = c .before .before .before .before .before .before .before .before .before .args in
-    let m = c .before .kind .given .0 in
-    (m .1 .1 .0 + 4 * m .1 .0 ≤ length (a .burst .now)) × (length (a .burst .now) ≤ longestBurst)
-inside c = (body-inside _ _ _ _ _ (message c), burst-short _ _ _ _ _ (message c))
 
 is-good-requires : tie.Need-is-good-requires
 is-good-requires c κs = search needs
@@ -30,52 +10,15 @@ is-good-requires c κs = search needs
 returns : tie.Need-returns
 returns c = forge-refused _ _ _ _ _ (c .before .is-good .ensures) (c .if1 .taken)
 
-cast-read : tie.Need-cast-read
-cast-read c = search needs
-
-read-requires : tie.Need-read-requires
-read-requires c κs = search needs
-
-enum-known-kind : tie.Need-enum-known-kind
-enum-known-kind c = search needs
-
-enum-told : tie.Need-enum-told
-enum-told c = search needs
-
-returns-2 : tie.Need-returns-2
-returns-2 c = forge-unread _ _ _ _ _ (c .before .before .before .before .before .before .is-good .ensures)
-    (c .before .before .before .before .before .if1 .left) (sym (c .before .before .read .ensures) ∙ c .enum-told .given .1)
-
-mul-identifiers : tie.Need-mul-identifiers
-mul-identifiers c = omega (arith, inside c)
-
-add-identifiers : tie.Need-add-identifiers
-add-identifiers c = omega (arith, inside c)
-
-sub-identifiers : tie.Need-sub-identifiers
-sub-identifiers c = search needs
-
-part-identifiers-start : tie.Need-part-identifiers-start
-part-identifiers-start c = search needs
-
-part-identifiers-end : tie.Need-part-identifiers-end
-part-identifiers-end c = inside c .0
-
-identifiers-requires : tie.Need-identifiers-requires
-identifiers-requires c κs = search needs
-
 link-to-requires : tie.Need-link-to-requires
 link-to-requires c κs = search needs
 
-hear-message-requires : tie.Need-hear-message-requires
-hear-message-requires c κs = search needs
+hear-burst-requires : tie.Need-hear-burst-requires
+hear-burst-requires c κs = search needs
 
-returns-3 : tie.Need-returns-3
-returns-3 c =
-    let k = c .before .before .before .before .before in
-    forge-heard _ _ _ _ _ (k .before .before .before .before .before .before .before .is-good .ensures)
-    (k .before .before .before .before .before .before .if1 .left) (message k)
-    (c .before .before .before .identifiers .ensures) (c .before .before .link-to .ensures) (c .before .hear-message .ensures)
+returns-2 : tie.Need-returns-2
+returns-2 c = forge-heard _ _ _ _ _ (c .before .before .before .is-good .ensures)
+    (c .before .before .if1 .left) (c .before .link-to .ensures) (c .hear-burst .ensures)
 
 pub forge-spec : {M : Type 1} → statement M
 forge-spec =
@@ -83,17 +26,6 @@ forge-spec =
     (tie.spec
     is-good-requires
     returns
-    cast-read
-    read-requires
-    enum-known-kind
-    enum-told
-    returns-2
-    mul-identifiers
-    add-identifiers
-    sub-identifiers
-    part-identifiers-start
-    part-identifiers-end
-    identifiers-requires
     link-to-requires
-    hear-message-requires
-    returns-3)
+    hear-burst-requires
+    returns-2)

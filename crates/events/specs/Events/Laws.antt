@@ -5,6 +5,7 @@ use mathlib.Core.Path.{_≡_, refl, sym, ap, ap₂, _∙_}
 use mathlib.Core.Logic.{_≢_}
 use mathlib.Core.Bool.{Bool, true, false}
 use mathlib.Core.List.{List, [], _∷_}
+use native.Mathlib.Omega.{arith}
 use borrow.Author.Tests.{eq-eqb, ne-eqb, eqb-false, lt-ltb, le-ltb}
 use lib.ListN.{length, getD, set, take, drop}
 use lib.Dec.{eqb, ltb}
@@ -31,7 +32,6 @@ use Rattle.decoding.specs.Decoding.{idArray}
 use Rattle.reader.specs.Answers.{readingOf}
 use Rattle.reader.specs.Answers.Laws.{reading-refused}
 use Rattle.reader.specs.Answers.Place.{body-there}
-use Rattle.protocol.specs.declared.Base.{Base}
 use Rattle.protocol.specs.Numbering.{linkTo}
 use Rattle.protocol.specs.Sound.Laws.{record-passed}
 use Rattle.protocol.specs.Steps.{Done, start, arrival, arrivalRefusal}
@@ -43,15 +43,16 @@ use Rattle.engine.specs.Hearing.Bursts.{read-heard}
 use Rattle.node.specs.declared.Frame.{Frame}
 use Rattle.node.specs.declared.Node.{Node}
 use Rattle.node_calls.specs.declared.Told.{Told}
-use Rattle.node.specs.Node.{inRange, logOf, frameAt, written, heardBy, marked}
+use Rattle.node.specs.Node.{mostBroadcasts, inRange, logOf, frameAt, written, heardBy, marked}
 use Rattle.node_calls.specs.Calls.{told}
 use Rattle.node_calls.specs.Calls.Laws.{after-unchanged}
 use Rattle.node.specs.Node as Nodes
 use Rattle.node.specs.Node.Log.{frame-written}
+use Rattle.node.specs.Node.Within.{below-one}
 use Rattle.net.specs.declared.StoredNet.{StoredNet}
 use Rattle.net.specs.Abstraction.{noNode, emptyNode, nodeAt, withNode, withNodes, netOf, faultyOf}
 use Rattle.events.specs.declared.Reached.{Reached}
-use Rattle.events.specs.Events.{marks, after, carryRefusal, carryCall, carriedTo, forgedTo}
+use Rattle.events.specs.Events.{marks, after, carryRefusal, heardBurst, carryCall, carriedTo, forgedTo}
 
 -- ---- a call that is turned down
 module _ (u : Node) where
@@ -61,6 +62,67 @@ module _ (u : Node) where
   arrival-down : (link : ℕ) (bytes : List ℕ) → callRefusal (arrival (u .base) link bytes outputRoom .answer) ≢ 0
       → Nodes.nodeAfter u (arrival (u .base) link bytes outputRoom) ≡ u
   arrival-down link bytes n = after-unchanged u _ (arrival-refused (u .base) link bytes outputRoom n)
+
+unless-down : {n : ℕ} {x u : Node} → (n ≢ 0 → x ≡ u) → x ≡ choose (eqb n 0) x u
+unless-down {n} {x} {u} f = go (eqb n 0) refl
+  where
+    go : (t : Bool) → eqb n 0 ≡ t → x ≡ choose t x u
+    go true e = unfold choose in refl
+    go false e = unfold choose in f (eqb-false n 0 e)
+
+-- ---- a burst that arrives
+module _ (u : Node) (link : ℕ) (bytes : List ℕ) (a k : ℕ) where
+  -- the burst of a call that is not turned down was read
+  call-read : callRefusal (arrival (u .base) link bytes outputRoom .answer) ≡ 0 → readRefusal (u .base .n) bytes ≡ 0
+  unfolding arrivalRefusal readRefusal
+  call-read z =
+      let p = first-passed _ _ (sym (arrival-number (u .base) link bytes outputRoom) ∙ z) in
+      let net : netRefusal (u .base .n) ≡ 0 = net-passes (record-passed (u .base) (p .0) .net) in
+      let burst : burstRefusal (u .base .n) bytes ≡ 0 = first-passed _ _ (first-passed _ _ (p .1) .1) .1 in
+      first-none (burstRefusal (u .base .n) bytes) net ∙ burst
+
+  pub burst-unread : {r : ℕ} → readingOf (u .base .n) bytes ≡ Refused r → u ≡ heardBurst u link bytes a k
+  unfolding heardBurst
+  burst-unread {r} e =
+      let q = reading-refused (u .base .n) bytes r e in chosen-no _ (ne-eqb _ 0 (λ z. q .1 (sym (q .0) ∙ call-read z))) refl
+
+  -- what was read arrives
+  module _ {kind count start : ℕ} (e : readingOf (u .base .n) bytes ≡ Message kind count start)
+      {ids : List ℕ} (ei : ids ≡ idArray (take (start + 4 * count - start) (drop start bytes)))
+      {t : Told} (et : t ≡ told u (messageArrival (u .base) link kind ids outputRoom)) where
+    is-told : t ≡ told u (arrival (u .base) link bytes outputRoom)
+    is-told = et ∙ ap (told u)
+        (sym (read-heard (u .base) link bytes outputRoom _ _ _ e ids (ei ∙ ap idArray (body-there _ _ _ _ _ e))))
+
+    its-number : t .refusal ≡ callRefusal (arrival (u .base) link bytes outputRoom .answer)
+    unfolding told
+    its-number = ap (λ (x : Told). x .refusal) is-told
+
+    its-node : t .node ≡ Nodes.nodeAfter u (arrival (u .base) link bytes outputRoom)
+    unfolding told
+    its-node = ap (λ (x : Told). x .node) is-told
+
+    pub burst-unheard : t .refusal ≢ 0 → u ≡ heardBurst u link bytes a k
+    unfolding heardBurst
+    burst-unheard some = chosen-no _ (ne-eqb _ 0 (λ z. some (its-number ∙ z))) refl
+
+    pub burst-heard : t .refusal ≡ 0 → {m : Node} → m ≡ marked (t .node) a k → m ≡ heardBurst u link bytes a k
+    unfolding heardBurst
+    burst-heard none em = chosen-yes _ (eq-eqb _ 0 (sym its-number ∙ none)) (em ∙ ap (λ (x : Node). marked x a k) its-node)
+
+-- no broadcast's number
+unnumbered : (v : Node) (a : ℕ) → marked v a 0 ≡ v
+unfolding marked
+unnumbered v a = sym (chosen-no _ (rw (below-one {x = 0} mostBroadcasts (omega arith)) (and-no _)) refl)
+
+-- a forged burst marks nothing
+unmarked : (u : Node) (link : ℕ) (bytes : List ℕ) (a : ℕ)
+    → heardBurst u link bytes a 0 ≡ Nodes.nodeAfter u (arrival (u .base) link bytes outputRoom)
+unfolding heardBurst
+unmarked u link bytes a =
+    let d = arrival (u .base) link bytes outputRoom in
+    ap (λ (x : Node). choose (eqb (callRefusal (d .answer)) 0) x u) (unnumbered (Nodes.nodeAfter u d) a)
+    ∙ sym (unless-down (arrival-down u link bytes))
 
 -- ---- a carry: numbers 16 and 17
 module _ (v u : Node) (faulty : List Nets.Pair) (a b k : ℕ) where
@@ -98,31 +160,18 @@ module _ (v u : Node) (faulty : List Nets.Pair) (a b k : ℕ) {n : ℕ} (en : n 
       (chosen-no (marked (Nodes.nodeAfter u (carryCall v u a b k)) a k)
       (ne-eqb (first (carryRefusal v u faulty a b k) r) 0 (λ z. some (en ∙ sym (first-given r (λ y. some (en ∙ y))) ∙ z))) refl)
 
-  module _ (none : n ≡ 0) {link : ℕ} (el : link ≡ linkTo b a)
-      {f : Frame} (ef : f ≡ frameAt v k) {t : Told} (et : t ≡ told u (arrival (u .base) link (written f) outputRoom)) where
+  module _ (none : n ≡ 0) {link : ℕ} (el : link ≡ linkTo b a) {f : Frame} (ef : f ≡ frameAt v k) where
     is-call : arrival (u .base) link (written f) outputRoom ≡ carryCall v u a b k
     unfolding carryCall
     is-call = rw (el, ef) (ap (λ (bytes : List ℕ). arrival (u .base) (linkTo b a) bytes outputRoom) (frame-written v k))
 
-    its-number : t .refusal ≡ callRefusal (carryCall v u a b k .answer)
-    unfolding told
-    its-number = ap (λ (x : Told). x .refusal) et ∙ ap (λ (d : Done). callRefusal (d .answer)) is-call
-
-    zero-first : first (carryRefusal v u faulty a b k) (callRefusal (carryCall v u a b k .answer)) ≡ t .refusal
-    zero-first = first-none _ (sym en ∙ none) ∙ sym its-number
-
-    pub carry-unheard : t .refusal ≢ 0 → record { refusal = 0; node = u } ≡ carriedTo v u faulty a b k
-    unfolding carriedTo
-    carry-unheard some = ap₂ (λ (r : ℕ) (x : Node). record { refusal = r; node = x })
-        (sym (sym en ∙ none)) (chosen-no _ (ne-eqb _ 0 (λ z. some (sym zero-first ∙ z))) refl)
-
-    pub carry-heard : t .refusal ≡ 0 → {m : Node} → m ≡ marked (t .node) a k → record { refusal = 0; node = m } ≡ carriedTo v u faulty a b k
-    unfolding carriedTo
-    carry-heard none-too {m} em = ap₂ (λ (r : ℕ) (x : Node). record { refusal = r; node = x })
-        (sym (sym en ∙ none)) (chosen-yes _ (eq-eqb _ 0 (zero-first ∙ none-too)) (em ∙ ap (λ (x : Node). marked x a k) node-is))
-      where
-        node-is : t .node ≡ Nodes.nodeAfter u (carryCall v u a b k)
-        node-is = ap (λ (x : Told). x .node) et ∙ (unfold told in ap (Nodes.nodeAfter u) is-call)
+    pub carry-heard : {m : Node} → m ≡ heardBurst u link (written f) a k → record { refusal = 0; node = m } ≡ carriedTo v u faulty a b k
+    unfolding carriedTo heardBurst
+    carry-heard em =
+        let z = sym en ∙ none in
+        ap₂ (λ (r : ℕ) (x : Node). record { refusal = r; node = x }) (sym z)
+        (em ∙ ap (λ (d : Done). choose (eqb (callRefusal (d .answer)) 0) (marked (Nodes.nodeAfter u d) a k) u) is-call
+        ∙ ap (λ (r : ℕ). choose (eqb r 0) (marked (Nodes.nodeAfter u (carryCall v u a b k)) a k) u) (sym (first-none _ z)))
 
 -- ---- a forgery
 module _ (u : Node) (faulty : List Nets.Pair) (a b : ℕ) (bytes : List ℕ) {g : Bool} (eg : g ≡ good faulty a b) where
@@ -130,34 +179,11 @@ module _ (u : Node) (faulty : List Nets.Pair) (a b : ℕ) (bytes : List ℕ) {g 
   unfolding forgedTo
   forge-refused t = chosen-yes _ (sym eg ∙ t) refl
 
-  -- "refusals of its burst leave the schedule running"
-  unread : (c : Base) (link r : ℕ) → readingOf (c .n) bytes ≡ Refused r → callRefusal (arrival c link bytes outputRoom .answer) ≢ 0
-  unfolding arrivalRefusal readRefusal
-  unread c link r e z =
-      let q = reading-refused (c .n) bytes r e in
-      let p = first-passed _ _ (sym (arrival-number c link bytes outputRoom) ∙ z) in
-      let net : netRefusal (c .n) ≡ 0 = net-passes (record-passed c (p .0) .net) in
-      let burst : burstRefusal (c .n) bytes ≡ 0 = first-passed _ _ (first-passed _ _ (p .1) .1) .1 in
-      q .1 (sym (q .0) ∙ (first-none (burstRefusal (c .n) bytes) net ∙ burst))
-
-  pub forge-unread : g ≡ false
-      → {r : ℕ} → readingOf (u .base .n) bytes ≡ Refused r → record { refusal = 0; node = u } ≡ forgedTo u faulty a b bytes
+  pub forge-heard : g ≡ false → {link : ℕ} → link ≡ linkTo b a → {m : Node} → m ≡ heardBurst u link bytes a 0
+      → record { refusal = 0; node = m } ≡ forgedTo u faulty a b bytes
   unfolding forgedTo
-  forge-unread f {r} e = chosen-no _ (sym eg ∙ f)
-      (ap (λ (x : Node). record { refusal = 0; node = x }) (sym (arrival-down u (linkTo b a) bytes (unread (u .base) (linkTo b a) r e))))
-
-  -- what was read arrives
-  pub forge-heard : g ≡ false → {kind count start : ℕ} → readingOf (u .base .n) bytes ≡ Message kind count start
-      → {ids : List ℕ} → ids ≡ idArray (take (start + 4 * count - start) (drop start bytes))
-      → {link : ℕ} → link ≡ linkTo b a → {t : Told} → t ≡ told u (messageArrival (u .base) link kind ids outputRoom)
-      → record { refusal = 0; node = t .node } ≡ forgedTo u faulty a b bytes
-  unfolding forgedTo told
-  forge-heard f e {ids} ei {link} el et =
-      let q = ei ∙ ap idArray (body-there _ _ _ _ _ e) in
-      chosen-no _ (sym eg ∙ f) (ap (λ (x : Told). record { refusal = 0; node = x .node }) et
-      ∙ ap (λ (d : Done). record { refusal = 0; node = Nodes.nodeAfter u d })
-      (sym (read-heard (u .base) link bytes outputRoom _ _ _ e ids q))
-      ∙ ap (λ (x : ℕ). record { refusal = 0; node = Nodes.nodeAfter u (arrival (u .base) x bytes outputRoom) }) el)
+  forge-heard f el em = chosen-no _ (sym eg ∙ f) (ap (λ (x : Node). record { refusal = 0; node = x })
+      (em ∙ ap (λ (l : ℕ). heardBurst u l bytes a 0) el ∙ unmarked u (linkTo b a) bytes a))
 
 -- ---- what they do to the net
 -- storing what is there changes nothing
@@ -187,13 +213,6 @@ reached-stored w e = go (eqb (refusal (faultyOf w) (netOf w) e) 0) (marks e (Nod
     go : (t : Bool) (x : Node) → withNode w (at e) (choose t x (nodeAt w (at e))) ≡ choose t (withNode w (at e) x) w
     go true x = unfold choose in refl
     go false x = unfold choose in stored-self w (at e)
-
-unless-down : {n : ℕ} {x u : Node} → (n ≢ 0 → x ≡ u) → x ≡ choose (eqb n 0) x u
-unless-down {n} {x} {u} f = go (eqb n 0) refl
-  where
-    go : (t : Bool) → eqb n 0 ≡ t → x ≡ choose t x u
-    go true e = unfold choose in refl
-    go false e = unfold choose in f (eqb-false n 0 e)
 
 pub start-reaches : (w : StoredNet) (b : ℕ)
     → Nodes.nodeAfter (nodeAt w b) (start (nodeAt w b .base) outputRoom) ≡ reachedNode w (starts b outputRoom)

@@ -27,7 +27,6 @@ use Rattle.protocol.specs.Steps.{
   begins,
   start,
   arrivalStep,
-  arrival,
   encodeAll,
 }
 use Rattle.protocol.specs.Steps.Answers.{Unchanged}
@@ -50,7 +49,7 @@ use Rattle.protocol.specs.Steps.Cases.{
 }
 use Rattle.protocol.specs.Steps.Laws.{takes-rest}
 use Rattle.protocol.specs.Steps.Output.{start-step-brief, arrival-step-brief}
-use Rattle.protocol.specs.Steps.Refusals.{Heard, start-cases, arrival-cases, arrival-heard}
+use Rattle.protocol.specs.Steps.Refusals.{Heard, start-cases}
 use Rattle.protocol.specs.Steps.Sizes.{Brief, valid-fits, decides-fits}
 use Rattle.engine.specs.Hearing.{messageArrival}
 use Rattle.engine.specs.Hearing.Valid.{message-heard, message-cases}
@@ -150,10 +149,6 @@ heard-tidy b i m S H = stepped-tidy b _ (arrival-step-brief b i m S H) (arrival-
 pub start-tidy : (b : Base) (room : ℕ) → Tidy b (start b room)
 start-tidy b room = start-cases (Tidy b) b room (λ r _. refuses-tidy b r)
     (λ _. stepped-tidy b _ (start-step-brief b) (start-step-cases Stepped b (λ _. begins-stepped b) (λ _. discards-stepped b)))
-
-pub arrival-tidy : (b : Base) (link : ℕ) (burst : List ℕ) (room : ℕ) → Sized b → Below 256 burst → Tidy b (arrival b link burst room)
-arrival-tidy b link burst room S bytes =
-    arrival-cases (Tidy b) b link burst room (λ r _. refuses-tidy b r) (λ e. heard-tidy b _ _ S (arrival-heard b link burst room bytes e))
 
 pub message-tidy : (b : Base) (link kind : ℕ) (ids : List ℕ) (room : ℕ) → Sized b → length ids ≡ mostBases → Below (2 ^ 32) ids
     → Tidy b (messageArrival b link kind ids room)
