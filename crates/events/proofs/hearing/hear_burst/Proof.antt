@@ -61,8 +61,8 @@ hear-message-requires : tie.Need-hear-message-requires
 hear-message-requires c κs = search needs
 
 returns-2 : tie.Need-returns-2
-returns-2 c = burst-unheard _ _ _ _ _ (message (c .before .before .before .before .before)) (c .before .before .before .identifiers .ensures)
-    (c .before .before .hear-message .ensures) (c .if1 .taken)
+returns-2 c = burst-unheard _ _ _ _ _ (message (c .before .before .before .before .before))
+    (c .before .before .before .identifiers .ensures) (c .before .before .hear-message .ensures) (c .if1 .taken)
 
 mark-requires : tie.Need-mark-requires
 mark-requires c κs = search needs
