@@ -22,7 +22,7 @@ pub fn check() -> Result<String, Vec<String>> {
     let table = table().map_err(|error| vec![error])?;
     let mut wrong = Vec::new();
     let sources = [
-        ("include/roster.h", header(), 12),
+        ("include/roster.h", header(), table.len()),
         ("crates/limits/src/refusal.rt", constants(), table.len()),
         ("the trace", rows_of("crates/causes/src/meanings.rt"), table.len()),
         ("the picture", arms("tools/hillpicture/refusals.rs"), 9),

@@ -2,7 +2,7 @@
 
 use crate::trace::{End, Event, State, Trace};
 
-#[derive(Default)]
+#[derive(Clone, Default)]
 pub struct Cut {
     /// The first and the last line of the schedule.
     pub lines: Option<(usize, usize)>,
@@ -19,6 +19,8 @@ pub struct Shown {
     pub bases: Vec<usize>,
     /// What is drawn, where it is not all.
     pub told: Option<String>,
+    /// The same of a page, which names its own lines.
+    pub told_on_a_page: Option<String>,
     /// The states behind the last line of the cut.
     pub states: Vec<State>,
     /// Whether the schedule's end is drawn.
@@ -37,14 +39,26 @@ impl Cut {
         let until = trace.events.iter().take_while(|event| event.line <= last).count();
         let events: Vec<usize> = (0..until).filter(|&i| self.shows(trace, &bases, i)).collect();
         if events.is_empty() && !trace.events.is_empty() && !self.has_refused_line(trace) {
-            return Err("nothing happens there".to_string());
+            return Err(self.nothing_there(trace));
         }
         let whole_end = until == trace.events.len();
         let states = match &trace.end {
             End::Report { bases, .. } if whole_end => bases.clone(),
             _ => trace.states_after(until),
         };
-        Ok(Shown { events, bases, told: self.told(), states, whole_end })
+        let told_on_a_page = Cut { lines: None, ..self.clone() }.told();
+        Ok(Shown { events, bases, told: self.told(), told_on_a_page, states, whole_end })
+    }
+
+    /// Why nothing is left to draw: the lines are no events, or the other options leave out what happens there.
+    fn nothing_there(&self, trace: &Trace) -> String {
+        let (first, last) = self.lines.unwrap_or((0, usize::MAX));
+        let lines: Vec<usize> = trace.events.iter().map(|event| event.line).collect();
+        match (lines.iter().any(|line| (first..=last).contains(line)), &lines[..]) {
+            (false, [from, .., to]) => format!("nothing happens there: events stand in lines {from} to {to}"),
+            (false, _) => "nothing happens there".to_string(),
+            (true, _) => "what happens there is left out by the other options".to_string(),
+        }
     }
 
     fn has_refused_line(&self, trace: &Trace) -> bool {

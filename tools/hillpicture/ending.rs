@@ -180,8 +180,9 @@ fn unbroken(phrases: &[String]) -> Vec<String> {
 /// "bases 1, 3 and 4", of those drawn
 fn which(shown: &Shown, wanted: impl Fn(&State) -> bool) -> String {
     let bases: Vec<usize> = shown.bases.iter().copied().filter(|b| wanted(&shown.states[b - 1])).collect();
-    match bases.len() == shown.states.len() {
-        true => format!("all {} bases", bases.len()),
-        false => bases_in_words(&bases),
+    match bases.len() {
+        2 if shown.states.len() == 2 => "both bases".to_string(),
+        all if all == shown.states.len() => format!("all {all} bases"),
+        _ => bases_in_words(&bases),
     }
 }

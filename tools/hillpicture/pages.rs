@@ -69,11 +69,14 @@ fn page(chart: &Chart, sheets: &[Sheet], i: usize, paper: &Paper) -> String {
     svg.inline(paper.width, paper.height, &format!("{}, {number}", legend::title(trace)))
 }
 
-/// "Lines 40 to 90."
+/// "Lines 40 to 90, what is heard at base 3."
 fn lines_on(chart: &Chart, sheet: &Sheet) -> String {
     let line = |row: Option<&(usize, i32)>| row.map(|&(place, _)| chart.trace.events[chart.rows[place].event].line);
     match (line(sheet.rows.first()), line(sheet.rows.last())) {
-        (Some(first), Some(last)) => format!("Lines {first} to {last}."),
+        (Some(first), Some(last)) => match &chart.shown.told_on_a_page {
+            Some(told) => format!("Lines {first} to {last}, {told}."),
+            None => format!("Lines {first} to {last}."),
+        },
         _ => "The end.".to_string(),
     }
 }
