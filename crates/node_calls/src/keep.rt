@@ -8,8 +8,9 @@ ghost use mathlib.Core.Path.{_≡_};
 ghost use Prim.Native.Nat.{_+_, _≤_};
 ghost use lib.ListN.{length, take, drop};
 ghost use Rattle.limits.specs.Limits.{longestFrame};
-ghost use Rattle.node.specs.Node.{storedFrame};
-ghost use Rattle.node_calls.specs.Calls.{keptOf, threeKept};
+ghost use mathlib.Core.List.{[], _∷_};
+ghost use Rattle.node.specs.Node.{storedFrame, withBase};
+ghost use Rattle.node_calls.specs.Calls.{AllFit, keptFrom};
 
 // The len bytes of out from a place on, as a frame.
 fn frame_of(out: &[u8], from: usize, len: usize) -> Frame
@@ -25,26 +26,7 @@ fn frame_of(out: &[u8], from: usize, len: usize) -> Frame
     Frame { len, bytes }
 }
 
-// One broadcast more, where there is one.
-fn keep(node: Node, out: &[u8], from: usize, len: usize) -> Node
-    requires { ⌜ (len ≤ longestFrame) × (from + len ≤ length (now out)) ⌝ }
-    ensures { λ r. ⌜ r ≡ keptOf node (take len (drop from (now (out .entry)))) ⌝ }
-{
-    let count = node.count;
-    if len == 0 {
-        return node;
-    }
-    if MOST_BROADCASTS <= count {
-        return node;
-    }
-    let frame = frame_of(out, from, len);
-    let mut after = node;
-    after.frames[count] = frame;
-    after.count = count + 1;
-    after
-}
-
-// The record after a call, and up to three frames from the output that the call wrote.
+// The record after a call, and up to three frames from the output that the call wrote, one behind the other. A length of zero is no frame.
 pub(crate) fn keep_three(
     node: Node,
     base: Base,
@@ -53,13 +35,26 @@ pub(crate) fn keep_three(
     second: usize,
     third: usize,
 ) -> Node
-    requires { ⌜ (first ≤ longestFrame)
-        × ((second ≤ longestFrame) × ((third ≤ longestFrame) × (first + second + third ≤ length (now out)))) ⌝ }
-    ensures { λ r. ⌜ r ≡ threeKept node base (now (out .entry)) first second third ⌝ }
+    requires { ⌜ AllFit (length (now out)) 0 (first ∷ (second ∷ (third ∷ []))) ⌝ }
+    ensures { λ r. ⌜ r ≡ keptFrom (withBase node base) (now (out .entry)) 0 (first ∷ (second ∷ (third ∷ []))) ⌝ }
 {
+    let lengths = [first, second, third];
     let mut after = node;
     after.base = base;
-    let one = keep(after, out, 0, first);
-    let two = keep(one, out, first, second);
-    keep(two, out, first + second, third)
+    let mut from: usize = 0;
+    let mut i: usize = 0;
+    while i < 3 {
+        let len = lengths[i];
+        let count = after.count;
+        if len != 0 {
+            if count < MOST_BROADCASTS {
+                let frame = frame_of(out, from, len);
+                after.frames[count] = frame;
+                after.count = count + 1;
+            }
+        }
+        from += len;
+        i += 1;
+    }
+    after
 }

@@ -3,16 +3,17 @@
 mod keep;
 
 use crate::keep::keep_three;
+use c_answers::outcome_numbers;
+use change::Change;
 use change::changed;
 use limits::MOST_BASES;
 use limits::OUTPUT_ROOM;
 use node::Node;
-use protocol::Base;
-use protocol::Outcome;
 ghost use mathlib.Core.Path.{_≡_};
 ghost use lib.ListN.{length};
 ghost use Rattle.limits.specs.Limits.{outputRoom};
 ghost use Rattle.protocol.specs.Steps as Steps;
+ghost use Rattle.change.specs.Change.{changedBase};
 ghost use Rattle.engine.specs.Hearing.{messageArrival};
 ghost use Rattle.node_calls.specs.Calls.{told, Fitting, settledOf};
 
@@ -22,28 +23,17 @@ pub struct Told {
     pub node: Node,
 }
 
-fn settle(node: Node, base: Base, outcome: Outcome, out: &[u8]) -> Told
-    requires { ⌜ Fitting outcome (length (now out)) ⌝ }
-    ensures { λ r. ⌜ r ≡ settledOf node base outcome (now (out .entry)) ⌝ }
+// What a call changed in the record, and what it wrote: a call that is turned down changed and wrote nothing.
+fn settle(node: Node, change: Change, out: &[u8]) -> Told
+    requires { ⌜ Fitting (change .outcome) (length (now out)) ⌝ }
+    ensures { λ r. ⌜ r ≡ settledOf node (changedBase (node .base) change) (change .outcome) (now (out .entry)) ⌝ }
 {
-    match outcome {
-        Outcome::Refused(refusal) => Told { refusal, node },
-        Outcome::Accepted {
-            first,
-            second,
-            third,
-        } => Told {
-            refusal: 0,
-            node: keep_three(node, base, out, first, second, third),
-        },
-        Outcome::Discarded {
-            first,
-            second,
-            third,
-        } => Told {
-            refusal: 0,
-            node: keep_three(node, base, out, first, second, third),
-        },
+    let base = changed(node.base, change);
+    let outcome = change.outcome;
+    let answer = outcome_numbers(outcome);
+    Told {
+        refusal: answer.refusal,
+        node: keep_three(node, base, out, answer.first, answer.second, answer.third),
     }
 }
 
@@ -51,20 +41,16 @@ fn settle(node: Node, base: Base, outcome: Outcome, out: &[u8]) -> Told
 pub fn start(node: Node) -> Told
     ensures { λ r. ⌜ r ≡ told node (Steps.start (node .base) outputRoom) ⌝ }
 {
-    let base = node.base;
     let mut out = [0u8; OUTPUT_ROOM];
-    let change = engine::changes::start(base, &mut out);
-    let outcome = change.outcome;
-    settle(node, changed(base, change), outcome, &out)
+    let change = engine::changes::start(node.base, &mut out);
+    settle(node, change, &out)
 }
 
 // A message that was read arrives at the base on a link: its kind, and its identifiers with zeros behind.
 pub fn hear_message(node: Node, link: usize, kind: u8, ids: [u32; MOST_BASES]) -> Told
     ensures { λ r. ⌜ r ≡ told node (messageArrival (node .base) link kind ids outputRoom) ⌝ }
 {
-    let base = node.base;
     let mut out = [0u8; OUTPUT_ROOM];
-    let change = engine::changes::hear(base, link, kind, ids, &mut out);
-    let outcome = change.outcome;
-    settle(node, changed(base, change), outcome, &out)
+    let change = engine::changes::hear(node.base, link, kind, ids, &mut out);
+    settle(node, change, &out)
 }

@@ -14,34 +14,22 @@ slice-aggregate-hear c = search needs
 hear-requires : tie.Need-hear-requires
 hear-requires c κs = search needs
 
-changed-requires : tie.Need-changed-requires
-changed-requires c κs = search needs
-
 slice-aggregate-settle : tie.Need-slice-aggregate-settle
 slice-aggregate-settle c = search needs
 
 settle-requires : tie.Need-settle-requires
 settle-requires c κs =
-    let s = c .before .before .before .before .before .before in
+    let s = c .before .before .before .before in
     let G = s .good .1 .1 .1 .0 in
     call-fits (s .args .node) _ (message-tidy _ _ _ _ _ (node-base (s .args .node) _ (s .good .0))
-    (G .1 .0 .1) (array-words (s .args .ids) (G .0) (G .1 .1))) _ refl (c .before .before .before .hear .ensures)
+    (G .1 .0 .1) (array-words (s .args .ids) (G .0) (G .1 .1))) _ refl (c .before .before .hear .ensures)
 
 returns : tie.Need-returns
 returns c =
-    let s = c .before .before .before .before .before .before .before in
+    let s = c .before .before .before .before .before in
     let G = s .good .1 .1 .1 .0 in
     call-told (s .args .node) _ (message-tidy _ _ _ _ _ (node-base (s .args .node) _ (s .good .0))
-    (G .1 .0 .1) (array-words (s .args .ids) (G .0) (G .1 .1))) _ refl
-    (c .before .before .before .before .hear .ensures) (c .before .before .changed .ensures) (c .settle .ensures)
+    (G .1 .0 .1) (array-words (s .args .ids) (G .0) (G .1 .1))) _ refl (c .before .before .before .hear .ensures) (c .settle .ensures)
 
 pub hear-message-spec : {M : Type 1} → statement M
-hear-message-spec =
-    tie.close
-    (tie.spec
-    slice-aggregate-hear
-    hear-requires
-    changed-requires
-    slice-aggregate-settle
-    settle-requires
-    returns)
+hear-message-spec = tie.close (tie.spec slice-aggregate-hear hear-requires slice-aggregate-settle settle-requires returns)

@@ -12,30 +12,18 @@ slice-aggregate-start c = search needs
 start-requires : tie.Need-start-requires
 start-requires c κs = search needs
 
-changed-requires : tie.Need-changed-requires
-changed-requires c κs = search needs
-
 slice-aggregate-settle : tie.Need-slice-aggregate-settle
 slice-aggregate-settle c = search needs
 
 settle-requires : tie.Need-settle-requires
 settle-requires c κs =
-    let s = c .before .before .before .before .before .before in call-fits (s .args .node) _ (start-tidy _ _) _ refl
-    (c .before .before .before .start .ensures)
+    let s = c .before .before .before .before in
+    call-fits (s .args .node) _ (start-tidy _ _) _ refl (c .before .before .start .ensures)
 
 returns : tie.Need-returns
 returns c =
-    let s = c .before .before .before .before .before .before .before in
-    call-told (s .args .node) _ (start-tidy _ _) _ refl
-    (c .before .before .before .before .start .ensures) (c .before .before .changed .ensures) (c .settle .ensures)
+    let s = c .before .before .before .before .before in
+    call-told (s .args .node) _ (start-tidy _ _) _ refl (c .before .before .before .start .ensures) (c .settle .ensures)
 
 pub start-spec : {M : Type 1} → statement M
-start-spec =
-    tie.close
-    (tie.spec
-    slice-aggregate-start
-    start-requires
-    changed-requires
-    slice-aggregate-settle
-    settle-requires
-    returns)
+start-spec = tie.close (tie.spec slice-aggregate-start start-requires slice-aggregate-settle settle-requires returns)

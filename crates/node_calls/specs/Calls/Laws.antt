@@ -7,7 +7,7 @@ use native.Mathlib.Numerals.{add-one}
 use native.Mathlib.Omega.{arith}
 use borrow.Author.Tests.{eq-eqb, ne-eqb, lt-ltb, le-ltb}
 use lib.ListN.{length, getD, take, drop, set, length-drop, length-append}
-use lib.Seq.{take-suc, getD-drop, length-take-le, take-at, drop-at}
+use lib.Seq.{drop-cons, drop-length, take-suc, getD-drop, length-take-le, take-at, drop-at}
 use Rattle.limits.specs.Limits.{longestFrame, outputRoom}
 use Rattle.lists.specs.Lists.{padTo}
 use Rattle.lists.specs.Lists.Laws.{pad-next}
@@ -17,17 +17,18 @@ use Rattle.frame.specs.Encoding.{encode, over}
 use Rattle.frame.specs.Encoding.Laws.{length-over}
 use Rattle.protocol.specs.declared.Base.{Base}
 use Rattle.protocol.specs.declared.Outcome.{Outcome}
-use Rattle.protocol.specs.declared.Outcome.the-variants.{Accepted, Discarded, Refused}
 use Rattle.protocol.specs.Net.{callRefusal}
 use Rattle.protocol.specs.Steps.{Answer, accepted, discarded, refused, Done, encodeAll, lengths, outcomeOf, outputOf}
 use Rattle.protocol.specs.Steps.Answers.{Unchanged}
 use Rattle.protocol.specs.Steps.Output.{lengths-sum}
 use Rattle.change.specs.Change.{DoesAs}
+use Rattle.c_answers.specs.declared.CallAnswer.{CallAnswer}
+use Rattle.c_answers.specs.Numbers.{outcomeNumbers}
 use Rattle.node.specs.declared.Frame.{Frame}
 use Rattle.node.specs.declared.Node.{Node}
 use Rattle.node_calls.specs.declared.Told.{Told}
 use Rattle.node.specs.Node.{mostBroadcasts, storedFrame, joined, joinedAll, withBase, nodeAfter}
-use Rattle.node_calls.specs.Calls.{told, keptOf, threeKept, Fit, Fitting, settledOf}
+use Rattle.node_calls.specs.Calls.{told, keptOf, keptFrom, AllFit, Fitting, settledOf}
 use Rattle.node_calls.specs.Calls.Tidy.{AllShort, encoded-length, Tidy}
 
 pub copied : (out : List ℕ) (from len i : ℕ) → i < len → len ≤ longestFrame → from + len ≤ length out
@@ -71,10 +72,10 @@ part-at : (q p r rest : List ℕ) (x y : ℕ) → length q ≡ x → length p �
 part-at q p r rest x y ex ey =
     rw (append-assoc q (p ++ r) rest, drop-at q ((p ++ r) ++ rest) x ex, append-assoc p r rest) (take-at p (r ++ rest) y ey)
 
-parts : (v : Node) (b : Base) (p q r out : List ℕ)
-    → threeKept v b (over (p ++ (q ++ (r ++ []))) out) (length p) (length q) (length r) ≡ keptOf (keptOf (keptOf (withBase v b) p) q) r
-unfolding threeKept over
-parts v b p q r out = rw (one, two, three)
+parts : (v : Node) (p q r out : List ℕ)
+    → keptFrom v (over (p ++ (q ++ (r ++ []))) out) 0 (length p ∷ (length q ∷ (length r ∷ []))) ≡ keptOf (keptOf (keptOf v p) q) r
+unfolding keptFrom over
+parts v p q r out = rw (one, two, three)
   where
     rest : List ℕ
     rest = drop (length (p ++ (q ++ (r ++ [])))) out
@@ -82,28 +83,35 @@ parts v b p q r out = rw (one, two, three)
     one : take (length p) (drop 0 ((p ++ (q ++ (r ++ []))) ++ rest)) ≡ p
     one = part-at [] p (q ++ (r ++ [])) rest 0 (length p) refl refl
 
-    two : take (length q) (drop (length p) ((p ++ (q ++ (r ++ []))) ++ rest)) ≡ q
-    two = part-at p q (r ++ []) rest (length p) (length q) refl refl
+    two : take (length q) (drop (0 + length p) ((p ++ (q ++ (r ++ []))) ++ rest)) ≡ q
+    two = part-at p q (r ++ []) rest (0 + length p) (length q) (omega arith) refl
 
-    three : take (length r) (drop (length p + length q) ((p ++ (q ++ (r ++ []))) ++ rest)) ≡ r
-    three = ap (λ (l : List ℕ). take (length r) (drop (length p + length q) (l ++ rest))) (sym (append-assoc p q (r ++ [])))
-        ∙ part-at (p ++ q) r [] rest (length p + length q) (length r) (length-append p q) refl
+    three : take (length r) (drop (0 + length p + length q) ((p ++ (q ++ (r ++ []))) ++ rest)) ≡ r
+    three = ap (λ (l : List ℕ). take (length r) (drop (0 + length p + length q) (l ++ rest))) (sym (append-assoc p q (r ++ [])))
+        ∙ part-at (p ++ q) r [] rest (0 + length p + length q) (length r) (omega (arith, length-append p q)) refl
 
 no-more : (v : Node) → keptOf v [] ≡ v
 no-more v = sym (kept-none v [] refl)
 
-three-joined : (v : Node) (b : Base) (says : List Message) (out : List ℕ) → length says ≤ 3
-    → threeKept v b (over (encodeAll says) out) (getD (lengths says) 0 0) (getD (lengths says) 1 0) (getD (lengths says) 2 0)
-    ≡ joinedAll (withBase v b) (map encode says)
+-- the lengths of the first three
+abbrev threeOf : List Message → List ℕ
+threeOf says = getD (lengths says) 0 0 ∷ (getD (lengths says) 1 0 ∷ (getD (lengths says) 2 0 ∷ []))
+
+three-joined : (v : Node) (says : List Message) (out : List ℕ) → length says ≤ 3
+    → keptFrom v (over (encodeAll says) out) 0 (threeOf says) ≡ joinedAll v (map encode says)
 unfolding encodeAll lengths joinedAll
-three-joined v b [] out h = parts v b [] [] [] out ∙ no-more _ ∙ no-more _ ∙ no-more _
-three-joined v b (a ∷ []) out h = parts v b (encode a) [] [] out ∙ no-more _ ∙ no-more _ ∙ kept-encoded _ a
-three-joined v b (a ∷ (c ∷ [])) out h = parts v b (encode a) (encode c) [] out
+three-joined v [] out h = parts v [] [] [] out ∙ no-more _ ∙ no-more _ ∙ no-more _
+three-joined v (a ∷ []) out h = parts v (encode a) [] [] out ∙ no-more _ ∙ no-more _ ∙ kept-encoded _ a
+three-joined v (a ∷ (c ∷ [])) out h = parts v (encode a) (encode c) [] out
     ∙ no-more _ ∙ kept-encoded _ c ∙ ap (λ (w : Node). joined w (encode c)) (kept-encoded _ a)
-three-joined v b (a ∷ (c ∷ (d ∷ []))) out h =
-    parts v b (encode a) (encode c) (encode d) out ∙ kept-encoded _ d
+three-joined v (a ∷ (c ∷ (d ∷ []))) out h =
+    parts v (encode a) (encode c) (encode d) out ∙ kept-encoded _ d
     ∙ ap (λ (w : Node). joined w (encode d)) (kept-encoded _ c ∙ ap (λ (w : Node). joined w (encode c)) (kept-encoded _ a))
-three-joined v b (a ∷ (c ∷ (d ∷ (e ∷ says)))) out h = absurd (omega arith)
+three-joined v (a ∷ (c ∷ (d ∷ (e ∷ says)))) out h = absurd (omega arith)
+
+no-lengths : (says : List Message) → says ≡ [] → (0 ∷ (0 ∷ (0 ∷ []))) ≡ threeOf says
+unfolding lengths
+no-lengths says e = rw e
 
 -- ---- a call
 pub after-unchanged : (v : Node) (d : Done) → Unchanged (v .base) d → nodeAfter v d ≡ v
@@ -117,65 +125,85 @@ short-at (m ∷ says) zero p = p .0
 short-at (m ∷ says) (suc k) p = short-at says k (p .1)
 
 module _ (v : Node) (d : Done) (T : Tidy (v .base) d) (out : List ℕ) (wide : length out ≡ outputRoom) where
-  fit : Fit (getD (lengths (d .says)) 0 0) (getD (lengths (d .says)) 1 0) (getD (lengths (d .says)) 2 0) (length (outputOf d out))
+  fit : AllFit (length (outputOf d out)) 0 (threeOf (d .says))
   unfolding outputOf
-  fit = record {
-    one = short-at (d .says) 0 (T .small);
-    two = short-at (d .says) 1 (T .small);
-    three = short-at (d .says) 2 (T .small);
-    all = omega (
-      arith,
-      lengths-sum (d .says) (T .brief .few),
-      T .brief .small,
-      length-over (encodeAll (d .says)) out (omega (arith, T .brief .small)),
-    );
-  }
+  fit = (
+    short-at (d .says) 0 (T .small),
+    (
+      omega (arith, all),
+      (
+        short-at (d .says) 1 (T .small),
+        (
+          omega (arith, all),
+          (short-at (d .says) 2 (T .small), (omega (arith, all), tt)),
+        ),
+      ),
+    ),
+  )
+    where
+      all : getD (lengths (d .says)) 0 0 + getD (lengths (d .says)) 1 0 + getD (lengths (d .says)) 2 0
+          ≤ length (over (encodeAll (d .says)) out)
+      all = omega (
+        arith,
+        lengths-sum (d .says) (T .brief .few),
+        T .brief .small,
+        length-over (encodeAll (d .says)) out (omega (arith, T .brief .small)),
+      )
 
   fitting-answer : (a : Answer) → Fitting (outcomeOf a (d .says)) (length (outputOf d out))
-  unfolding outcomeOf
+  unfolding outcomeOf outcomeNumbers
   fitting-answer accepted = fit
   fitting-answer discarded = fit
-  fitting-answer (refused r) = tt
+  fitting-answer (refused r) = (omega arith, (omega arith, (omega arith, (omega arith, (omega arith, (omega arith, tt))))))
+
+  joined-all : keptFrom (withBase v (d .base)) (outputOf d out) 0 (threeOf (d .says)) ≡ nodeAfter v d
+  unfolding nodeAfter outputOf
+  joined-all = three-joined (withBase v (d .base)) (d .says) out (T .brief .few)
 
   settled-answer : (a : Answer) → d .answer ≡ a
       → settledOf v (d .base) (outcomeOf a (d .says)) (outputOf d out) ≡ record { refusal = callRefusal a; node = nodeAfter v d }
-  unfolding outcomeOf settledOf callRefusal nodeAfter outputOf
-  settled-answer accepted e = ap (λ (w : Node). record { refusal = 0; node = w }) (three-joined v (d .base) (d .says) out (T .brief .few))
-  settled-answer discarded e = ap (λ (w : Node). record { refusal = 0; node = w }) (three-joined v (d .base) (d .says) out (T .brief .few))
-  settled-answer (refused r) e = ap (λ (w : Node). record { refusal = r; node = w }) (sym (after-unchanged v d (T .down r e)))
+  unfolding outcomeOf outcomeNumbers settledOf callRefusal
+  settled-answer accepted e = ap (λ (w : Node). record { refusal = 0; node = w }) joined-all
+  settled-answer discarded e = ap (λ (w : Node). record { refusal = 0; node = w }) joined-all
+  settled-answer (refused r) e = ap (λ (w : Node). record { refusal = r; node = w })
+      (ap (keptFrom (withBase v (d .base)) (outputOf d out) 0) (no-lengths (d .says) (T .down r e .says)) ∙ joined-all)
 
   pub call-fits : {o : Outcome} {left : Base} {written : List ℕ} → DoesAs (λ x. x) d o left out written → Fitting o (length written)
   call-fits D = rw (D .changes .outcome, D .written) (fitting-answer (d .answer))
 
-  pub call-told : {o : Outcome} {left next : Base} {written : List ℕ} {t : Told}
-      → DoesAs (λ x. x) d o left out written → next ≡ left → t ≡ settledOf v next o written → t ≡ told v d
+  pub call-told : {o : Outcome} {left : Base} {written : List ℕ} {t : Told}
+      → DoesAs (λ x. x) d o left out written → t ≡ settledOf v left o written → t ≡ told v d
   unfolding told
-  call-told D e t = t ∙ rw (e, D .changes .base, D .changes .outcome, D .written) (settled-answer (d .answer) refl)
+  call-told D t = t ∙ rw (D .changes .base, D .changes .outcome, D .written) (settled-answer (d .answer) refl)
 
--- ---- an outcome that is known
-abbrev Fits : ℕ → ℕ → ℕ → ℕ → Type 0
-Fits x y z room = (x ≤ longestFrame) × ((y ≤ longestFrame) × ((z ≤ longestFrame) × (x + y + z ≤ room)))
+-- ---- an outcome as numbers
+module _ (o : Outcome) {a : CallAnswer} (e : a ≡ outcomeNumbers o) where
+  pub numbers-fit : {room : ℕ} → Fitting o room → AllFit room 0 (a .first ∷ (a .second ∷ (a .third ∷ [])))
+  numbers-fit {room} F = subst (λ (n : CallAnswer). AllFit room 0 (n .first ∷ (n .second ∷ (n .third ∷ [])))) (sym e) F
 
-fit-parts : {x y z room : ℕ} → Fit x y z room → Fits x y z room
-fit-parts F = (F .one, (F .two, (F .three, F .all)))
-
-pub accepted-fits : {o : Outcome} {x y z room : ℕ} → o ≡ Accepted x y z → Fitting o room → Fits x y z room
-accepted-fits {room = room} e F = fit-parts (subst (λ (o : Outcome). Fitting o room) e F)
-
-pub discarded-fits : {o : Outcome} {x y z room : ℕ} → o ≡ Discarded x y z → Fitting o room → Fits x y z room
-discarded-fits {room = room} e F = fit-parts (subst (λ (o : Outcome). Fitting o room) e F)
-
-module _ (v : Node) (b : Base) (out : List ℕ) {o : Outcome} where
-  pub settled-refused : {r : ℕ} → o ≡ Refused r → record { refusal = r; node = v } ≡ settledOf v b o out
+  pub numbers-settled : (v : Node) (out : List ℕ) {b c : Base} {w : Node} → c ≡ b
+      → w ≡ keptFrom (withBase v c) out 0 (a .first ∷ (a .second ∷ (a .third ∷ [])))
+      → record { refusal = a .refusal; node = w } ≡ settledOf v b o out
   unfolding settledOf
-  settled-refused e = rw e
+  numbers-settled v out d k = rw (k, d, e)
 
-  pub settled-accepted : {x y z : ℕ} {w : Node}
-      → o ≡ Accepted x y z → w ≡ threeKept v b out x y z → record { refusal = 0; node = w } ≡ settledOf v b o out
-  unfolding settledOf
-  settled-accepted e k = rw (e, k)
+-- ---- the frames of an output, one after another
+-- the i-th fits in its place, and those behind it in theirs
+abbrev pub FitsHere : List ℕ → List ℕ → ℕ → ℕ → Type 0
+FitsHere lengths out from i = AllFit (length out) from (getD lengths i 0 ∷ drop (i + 1) lengths)
 
-  pub settled-discarded : {x y z : ℕ} {w : Node}
-      → o ≡ Discarded x y z → w ≡ threeKept v b out x y z → record { refusal = 0; node = w } ≡ settledOf v b o out
-  unfolding settledOf
-  settled-discarded e k = rw (e, k)
+module _ (lengths : List ℕ) (out : List ℕ) (from i : ℕ) where
+  rest-here : i < length lengths → drop i lengths ≡ getD lengths i 0 ∷ drop (i + 1) lengths
+  rest-here h = rw (add-one i) (drop-cons lengths i 0 h)
+
+  pub fits-here : i < length lengths → AllFit (length out) from (drop i lengths) → FitsHere lengths out from i
+  fits-here h F = subst (AllFit (length out) from) (rest-here h) F
+
+  pub kept-here : i < length lengths → (v : Node) {w : Node} → w ≡ keptOf v (take (getD lengths i 0) (drop from out))
+      → keptFrom w out (from + getD lengths i 0) (drop (i + 1) lengths) ≡ keptFrom v out from (drop i lengths)
+  unfolding keptFrom
+  kept-here h v e = rw (e, rest-here h)
+
+  pub all-kept : i ≡ length lengths → {v w : Node} → keptFrom v out from (drop i lengths) ≡ w → v ≡ w
+  unfolding keptFrom
+  all-kept e {v} {w} k = subst (λ (l : List ℕ). keptFrom v out from l ≡ w) (ap (λ (j : ℕ). drop j lengths) e ∙ drop-length lengths) k

@@ -1,27 +1,96 @@
--- `node_calls::keep::keep_three` meets its contract: three frames, each kept on what the one before left.
-use mathlib.Core.Path.{_∙_}
-use Rattle.node_calls.specs.Calls.{threeKept}
-use Rattle.node.specs.Node.{withBase}
+-- `node_calls::keep::keep_three` meets its contract: the frames that are left, kept on the base so far, give what all of them give.
+use Prim.Native.Nat.{ℕ, _+_, _≤_, _-_}
+use mathlib.Core.Path.{_≡_, refl, sym, _∙_}
+use mathlib.Core.List.{List, [], _∷_}
+use denote.Ref.{now}
+use mathlib.Core.Logic.{⊎-elim}
+use native.Mathlib.Omega.{arith}
 use borrow.Author.Needs.{needs}
+use lib.ListN.{length, drop}
+use Rattle.node.specs.Node.{withBase}
+use Rattle.node_calls.specs.Calls.{AllFit, keptFrom}
+use Rattle.node_calls.specs.Calls.Laws.{FitsHere, fits-here, kept-here, all-kept, part-length, kept-none, kept-full, kept-more}
 use Rattle.node_calls.proofs.keep.keep_three.Statement.{statement}
 use Rattle.node_calls.proofs.keep.keep_three.Tie as tie
 
-keep-requires : tie.Need-keep-requires
-keep-requires c κs = search needs
+abbrev Inv-loop : tie.InvT-loop
+Inv-loop out first second third lengths after₀ from₀ i₀ after from i =
+    (i ≤ 3) × (AllFit (length out) from (drop i lengths) × (keptFrom after out from (drop i lengths) ≡ keptFrom after₀ out 0 lengths))
 
-keep-requires-2 : tie.Need-keep-requires-2
-keep-requires-2 c κs = search needs
+abbrev μ-loop : tie.MeasureT-loop
+μ-loop out first second third lengths after₀ from₀ i₀ after from i = 3 - i
 
-add-keep : tie.Need-add-keep
-add-keep c = search needs
+loop-holds : tie.Need-loop-holds Inv-loop μ-loop
+loop-holds c = (omega arith, (c .before .pre, refl))
 
-keep-requires-3 : tie.Need-keep-requires-3
-keep-requires-3 c κs = search needs
+mul-len : tie.Need-mul-len Inv-loop μ-loop
+mul-len c = search needs
 
-returns : tie.Need-returns
-unfolding threeKept withBase
-returns c = c .keep3 .ensures ∙ rw (c .before .keep2 .ensures, c .before .before .keep .ensures)
+array-read-len : tie.Need-array-read-len Inv-loop μ-loop
+array-read-len c = c .loop-test .taken
+
+abbrev lengthsAt : (c : tie.In-loop Inv-loop μ-loop) → List ℕ
+lengthsAt c = let a = c .before .before .before .args in a .first ∷ (a .second ∷ (a .third ∷ []))
+
+-- the frame of this turn fits, and so do those behind it
+fits : (c : tie.In-loop Inv-loop μ-loop)
+    → FitsHere (lengthsAt c) (now (c .before .before .before .args .out)) (c .before .loop .from) (c .before .loop .i)
+fits c = fits-here (lengthsAt c) (now (c .before .before .before .args .out)) _ _ (c .loop-test .taken) (c .before .loop .inv .1 .0)
+
+frame-of-requires : tie.Need-frame-of-requires Inv-loop μ-loop
+frame-of-requires c κs = let F = fits (c .before .before) in (F .0, omega (arith, F .1 .0))
+
+mul-frame : tie.Need-mul-frame Inv-loop μ-loop
+mul-frame c = search needs
+
+element-set-from-frame : tie.Need-element-set-from-frame Inv-loop μ-loop
+element-set-from-frame c = search needs
+
+add-after : tie.Need-add-after Inv-loop μ-loop
+add-after c = search needs
+
+add-from : tie.Need-add-from Inv-loop μ-loop
+add-from c = record { fits = omega (arith, fits (c .before) .1 .0, c .before .before .before .before .good .1 .1 .0 .0) }
+
+add-i : tie.Need-add-i Inv-loop μ-loop
+add-i c = search needs
+
+loop-less : tie.Need-loop-less Inv-loop μ-loop
+loop-less c = search needs
+
+-- a turn leaves the base with this frame kept: one broadcast more, no room, or no frame
+loop-again : tie.Need-loop-again Inv-loop μ-loop
+loop-again c =
+    let F = fits (c .before) in
+    let more : c .before .before .loop .i + 1 ≤ 3 = omega arith in
+    let l = part-length _ _ _ (F .1 .0) in
+    let kept = ⊎-elim (λ w. w .3 ∙ kept-more _ _ (λ z. w .0 .taken (sym l ∙ z)) (w .1 .taken) (w .2 .ensures))
+    (⊎-elim (λ w. w .2 ∙ kept-full _ _ (λ z. w .0 .taken (sym l ∙ z)) (w .1 .left)) (λ w. w .1 ∙ kept-none _ _ (l ∙ w .0 .left)))
+    (c .if1 .came) in
+    (more, (F .1 .1, kept-here (lengthsAt (c .before)) _ _ _ (c .before .loop-test .taken) _ kept ∙ c .before .before .loop .inv .1 .1))
+
+returns : tie.Need-returns Inv-loop μ-loop
+unfolding withBase
+returns c =
+    let a = c .before .before .before .args in
+    let l = c .before .loop in
+    all-kept (a .first ∷ (a .second ∷ (a .third ∷ []))) _ (l .from) (l .i) (omega arith) (l .inv .1 .1)
 
 pub keep-three-spec : {M : Type 1} → statement M
 keep-three-spec =
-    tie.close (tie.spec keep-requires keep-requires-2 add-keep keep-requires-3 returns)
+    tie.close
+    (tie.spec
+    Inv-loop
+    μ-loop
+    loop-holds
+    mul-len
+    array-read-len
+    frame-of-requires
+    mul-frame
+    element-set-from-frame
+    add-after
+    add-from
+    add-i
+    loop-less
+    loop-again
+    returns)
