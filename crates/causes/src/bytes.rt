@@ -11,7 +11,11 @@ pub(crate) const NO_DIGIT: u8 = 2;
 
 pub(crate) const NO_HEX_DIGIT: u8 = 3;
 
-pub(crate) const NOT_PRINTING: u8 = 4;
+pub(crate) const CAPITAL: u8 = 4;
+
+pub(crate) const COMMENT: u8 = 5;
+
+pub(crate) const NOT_PRINTING: u8 = 6;
 
 fn is_digit(b: u8) -> bool {
     if b < b'0' {
@@ -30,12 +34,21 @@ fn is_hex_digit(b: u8) -> bool {
     b <= b'f'
 }
 
+fn is_capital(b: u8) -> bool {
+    if b < b'A' {
+        return false;
+    }
+    b <= b'Z'
+}
+
 fn is_wanted(b: u8, wanted: u8) -> bool {
     match wanted {
         SPACE => b == b' ',
         LINE_FEED => b == b'\n',
         NO_DIGIT => !is_digit(b),
         NO_HEX_DIGIT => !is_hex_digit(b),
+        CAPITAL => is_capital(b),
+        COMMENT => b == b'#',
         _ => !prints(b),
     }
 }

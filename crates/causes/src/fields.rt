@@ -1,6 +1,7 @@
 // The fields of a line whose word stands in its place.
 use crate::RefusedLine;
 use crate::alike::first_alike;
+use crate::bytes::CAPITAL;
 use crate::bytes::NO_DIGIT;
 use crate::bytes::NO_HEX_DIGIT;
 use crate::bytes::SPACE;
@@ -32,11 +33,8 @@ use text::number::number_at;
 
 // What keeps a field from being a decimal number without leading zeros, at most 4,294,967,295.
 fn number_fault(bytes: &[u8]) -> u8 {
-    if bytes.len() == 0 {
-        return sentences::NO_DECIMAL;
-    }
     if place_of(bytes, NO_DIGIT) < bytes.len() {
-        return sentences::NO_DECIMAL;
+        return sentences::NOT_DIGITS;
     }
     let Number::Value(_, next) = number_at(bytes, 0) else {
         return sentences::TOO_LARGE;
@@ -64,7 +62,7 @@ fn is_base(line: &[u8], i: usize, n: usize) -> bool {
 }
 
 // Both bases stand there, so that of a forgery the bytes alone are missing, with their space.
-pub(crate) fn only_hex_missing(kind: u8, line: &[u8], n: usize) -> bool {
+fn only_hex_missing(kind: u8, line: &[u8], n: usize) -> bool {
     if kind != FORGE {
         return false;
     }
@@ -77,21 +75,44 @@ pub(crate) fn only_hex_missing(kind: u8, line: &[u8], n: usize) -> bool {
     false
 }
 
+// What is told of hex behind the count of fields.
+pub(crate) fn hex_hint(kind: u8, line: &[u8], n: usize) -> Cause {
+    if only_hex_missing(kind, line, n) {
+        return said(sentences::SPACE_BEFORE_HEX);
+    }
+    if kind != FORGE {
+        return none();
+    }
+    if spaces(line) <= 3 {
+        return none();
+    }
+    said(sentences::HEX_TOGETHER)
+}
+
+// A digit of hex that there is not; place_of tells a capital from any other.
+fn hex_digit(line: &[u8], digits: &[u8], place: usize) -> Cause {
+    let mut sentence = sentences::NO_HEX_DIGIT;
+    if place_of(digits, CAPITAL) == place {
+        sentence = sentences::CAPITAL_DIGIT;
+    }
+    let at = plus(behind(line, SPACE, 3), place);
+    of_part(sentence, plus(place, 1), at, 1)
+}
+
 // Two digits a byte, small letters, as many as a line can forge.
 fn hex(line: &[u8]) -> Cause {
     let digits = field(line, 3);
     let place = place_of(digits, NO_HEX_DIGIT);
     if place < digits.len() {
-        let at = plus(behind(line, SPACE, 3), place);
-        return of_part(sentences::NO_HEX_DIGIT, plus(place, 1), at, 1);
+        return hex_digit(line, digits, place);
+    }
+    if 2 * LONGEST_FORGERY < digits.len() {
+        return counted(sentences::TOO_MANY_BYTES, LONGEST_FORGERY);
     }
     if digits.len() % 2 == 1 {
         return counted(sentences::ODD_DIGITS, digits.len());
     }
-    if digits.len() / 2 <= LONGEST_FORGERY {
-        return none();
-    }
-    both(sentences::TOO_MANY_BYTES, digits.len() / 2, LONGEST_FORGERY)
+    none()
 }
 
 fn third(kind: u8, line: &[u8]) -> Cause {
@@ -162,18 +183,26 @@ fn faulty(s: &[u8], line: &[u8], refused: RefusedLine) -> Cause {
     counted(sentences::LINK_AGAIN, first_alike(s, refused.at, 0))
 }
 
-fn id(number: usize) -> Cause {
+// In its header's line, or behind them all.
+fn id(line: &[u8], number: usize, n: usize) -> Cause {
     if number < 1 {
         return none();
     }
-    of_field(sentences::OTHER_BASE, 1, number - 1)
+    if number - 1 <= n {
+        return of_field(sentences::OTHER_BASE, 1, number - 1);
+    }
+    if !is_base(line, 1, n) {
+        return base(line, 1, n);
+    }
+    let b = value(line, 1);
+    both(sentences::ID_AGAIN, b, plus(b, 1))
 }
 
 // The fields together, and held against the net.
 fn together(kind: u8, s: &[u8], line: &[u8], refused: RefusedLine) -> Cause {
     match kind {
         NET => none(),
-        ID => id(refused.number),
+        ID => id(line, refused.number, refused.n),
         FAULTY => faulty(s, line, refused),
         START => base(line, 1, refused.n),
         CARRY => carry(line, refused.n),

@@ -1,5 +1,7 @@
 // Number 13: what breaks a line's form. It is looked for in the bytes first, then in the spaces, the word and the fields.
 use crate::RefusedLine;
+use crate::bytes::CAPITAL;
+use crate::bytes::COMMENT;
 use crate::bytes::NOT_PRINTING;
 use crate::bytes::SPACE;
 use crate::bytes::alternates;
@@ -83,7 +85,15 @@ fn is_wide(line: &[u8], next: &[u8]) -> bool {
     is_utf_16(bytes)
 }
 
-// What an editor puts before a text, or makes of it.
+fn comment(line: &[u8]) -> Cause {
+    let place = place_of(line, COMMENT);
+    if line.len() <= place {
+        return none();
+    }
+    of_part(sentences::NO_COMMENTS, plus(place, 1), place, 1)
+}
+
+// What an editor puts before a text, or makes of it, and what a reader would like beside it.
 fn encoding(line: &[u8], next: &[u8]) -> Cause {
     if begins(line, b"\xef\xbb\xbf") {
         return said(sentences::BYTE_ORDER_MARK);
@@ -91,14 +101,18 @@ fn encoding(line: &[u8], next: &[u8]) -> Cause {
     if is_wide(line, next) {
         return said(sentences::UTF_16);
     }
-    none()
+    comment(line)
 }
 
-fn odd_byte(line: &[u8], place: usize, ended: bool) -> Cause {
-    if begins(part(line, place, 1), b"\r") {
-        return carriage_return(line, place, ended);
+// How a byte that does not print is named.
+fn odd_byte(b: u8) -> u8 {
+    if b == b'\t' {
+        return sentences::TAB;
     }
-    of_part(sentences::ODD_BYTE, plus(place, 1), place, 1)
+    if b < 128 {
+        return sentences::CONTROL;
+    }
+    sentences::NOT_ASCII
 }
 
 // A byte that does not print. The line feed stands behind the line, or else the schedule ends with it.
@@ -107,7 +121,11 @@ fn odd_bytes(line: &[u8], ended: bool) -> Cause {
     if line.len() <= place {
         return none();
     }
-    odd_byte(line, place, ended)
+    let b = line[place];
+    if b == b'\r' {
+        return carriage_return(line, place, ended);
+    }
+    of_part(odd_byte(b), plus(place, 1), place, 1)
 }
 
 // Behind `forge a b ` there may be nothing.
@@ -142,7 +160,11 @@ fn unknown(line: &[u8]) -> Cause {
     if line.len() == 0 {
         return said(sentences::EMPTY);
     }
-    of_part(sentences::NO_WORD, 0, 0, place_of(line, SPACE))
+    let length = place_of(line, SPACE);
+    if place_of(line, CAPITAL) < length {
+        return of_part(sentences::CAPITAL_WORD, 0, 0, length);
+    }
+    of_part(sentences::NO_WORD, 0, 0, length)
 }
 
 fn late_faulty(line: RefusedLine) -> Cause {
@@ -155,7 +177,6 @@ fn late_faulty(line: RefusedLine) -> Cause {
 fn behind_the_header(kind: u8, line: RefusedLine) -> Cause {
     match kind {
         NET => said(sentences::NET_AGAIN),
-        ID => counted(sentences::ID_AGAIN, line.n),
         FAULTY => late_faulty(line),
         _ => none(),
     }
@@ -225,7 +246,7 @@ pub(crate) fn form_cause(kind: u8, s: &[u8], line: &[u8], refused: RefusedLine) 
         return said(sentences::TOO_LONG);
     }
     if s.len() <= refused.at {
-        return said(sentences::ENDS_BEFORE);
+        return counted(sentences::ENDS_BEFORE, refused.number);
     }
     text_cause(kind, s, line, refused)
 }

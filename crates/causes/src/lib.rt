@@ -7,15 +7,14 @@ mod fields;
 mod form;
 mod forms;
 mod line;
-mod meanings;
+pub mod meanings;
 mod numbers;
 mod sentences;
 mod tell;
 
 use crate::cause::Cause;
 use crate::cause::none;
-use crate::cause::said;
-use crate::fields::only_hex_missing;
+use crate::fields::hex_hint;
 use crate::form::belongs;
 use crate::form::form_cause;
 use crate::forms::kind_of;
@@ -24,7 +23,6 @@ use crate::meanings::meaning;
 use crate::numbers::number_cause;
 use crate::sentences::ENDS_BEFORE;
 use crate::sentences::FIELD_COUNT;
-use crate::sentences::SPACE_BEFORE_HEX;
 use crate::tell::cut;
 use crate::tell::tell;
 use limits::refusal::FORM;
@@ -46,12 +44,6 @@ pub struct RefusedLine {
     pub broadcasts: usize,
 }
 
-// What a refusal's number means, and the line's end.
-pub fn refused(number: u8) {
-    meaning(number);
-    text(b"\n");
-}
-
 fn cause_of(kind: u8, s: &[u8], line: &[u8], refused: RefusedLine) -> Cause {
     if refused.refusal == FORM {
         return form_cause(kind, s, line, refused);
@@ -59,18 +51,11 @@ fn cause_of(kind: u8, s: &[u8], line: &[u8], refused: RefusedLine) -> Cause {
     number_cause(s, line, refused)
 }
 
-fn hint(kind: u8, line: &[u8], n: usize) -> Cause {
-    if only_hex_missing(kind, line, n) {
-        return said(SPACE_BEFORE_HEX);
-    }
-    none()
-}
-
 // What is told behind a cause.
 fn further(sentence: u8, kind: u8, line: &[u8], refused: RefusedLine) -> Cause {
     match sentence {
         ENDS_BEFORE => belongs(refused),
-        FIELD_COUNT => hint(kind, line, refused.n),
+        FIELD_COUNT => hex_hint(kind, line, refused.n),
         _ => none(),
     }
 }

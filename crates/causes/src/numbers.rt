@@ -10,9 +10,13 @@ use crate::cause::said;
 use crate::line::value;
 use crate::sentences;
 use limits::refusal;
+ghost use mathlib.Core.Path.{_≡_};
+ghost use Rattle.limits.specs.Limits.{mostFaulty};
 
-// (n - 2) / 2, rounded down
-fn most_faulty(n: usize) -> usize {
+// The limit of t in a net of n bases.
+fn most_faulty(n: usize) -> usize
+    ensures { λ r. ⌜ r ≡ mostFaulty n ⌝ }
+{
     if n < 2 {
         return 0;
     }
@@ -44,10 +48,17 @@ fn good_link(line: &[u8]) -> Cause {
     both(sentences::GOOD_LINK, b, a)
 }
 
+fn too_many(t: usize) -> Cause {
+    if t == 0 {
+        return said(sentences::NONE_FAULTY);
+    }
+    counted(sentences::TOO_MANY_FAULTY, t)
+}
+
 fn event(s: &[u8], line: &[u8], refused: RefusedLine) -> Cause {
     let number = refused.refusal;
     match number {
-        refusal::FAULTY_LINKS => counted(sentences::TOO_MANY_FAULTY, refused.t),
+        refusal::FAULTY_LINKS => too_many(refused.t),
         refusal::NOT_BROADCAST => both(
             sentences::TOO_FEW_BROADCASTS,
             refused.broadcasts,

@@ -15,22 +15,51 @@ use output::visible;
 // Bytes of a line that are shown.
 const SHOWN: usize = 80;
 
-fn length(bytes: &[u8]) {
-    if LONGEST_SCHEDULE < bytes.len() {
-        text(b"more than ");
-        return number(LONGEST_SCHEDULE);
+// The digit of a number that counts so many.
+fn digit(v: usize, of: usize) {
+    if 0 < of {
+        text(&[b'0' + (v / of % 10) as u8]);
     }
-    number(bytes.len())
 }
 
-// A line or a field, such that every byte is seen, and not too long. Of a longer schedule no more is read than shows that it is longer.
+// `65,536`, as the limits are written
+fn length(v: usize) {
+    if v < 1000 {
+        return number(v);
+    }
+    number(v / 1000);
+    text(b",");
+    digit(v, 100);
+    digit(v, 10);
+    digit(v, 1);
+}
+
+// Of a line that is cut. Of a longer schedule no more is read than shows that it is longer.
+fn rest(bytes: &[u8]) {
+    if bytes.len() <= SHOWN {
+        return;
+    }
+    text(b" ... (");
+    if LONGEST_SCHEDULE < bytes.len() {
+        text(b"more than 65,536");
+    } else {
+        length(bytes.len());
+    }
+    text(b" bytes)");
+}
+
+// A line, such that every byte is seen, and not too long.
 pub(crate) fn cut(bytes: &[u8]) {
     visible(part(bytes, 0, SHOWN));
-    if SHOWN < bytes.len() {
-        text(b" ... (");
-        length(bytes);
-        text(b" bytes)");
-    }
+    rest(bytes);
+}
+
+// A part of a line as it stands.
+fn quoted(bytes: &[u8]) {
+    text(b"`");
+    visible(part(bytes, 0, SHOWN));
+    text(b"`");
+    rest(bytes);
 }
 
 // `1 field`, `2 fields`
@@ -40,10 +69,18 @@ fn plural(count: usize) {
     }
 }
 
+// `1 is`, `2 are`
+fn verb(count: usize) {
+    if count == 1 {
+        return text(b"is");
+    }
+    text(b"are")
+}
+
 fn field_is(kind: u8, line: &[u8], i: usize) {
     name(kind, i);
     text(b" is ");
-    cut(field(line, i));
+    quoted(field(line, i));
 }
 
 // What a byte of a sentence stands for, or else the byte itself.
@@ -52,8 +89,9 @@ fn put(sign: u8, cause: Cause, kind: u8, line: &[u8]) {
         b'#' => number(cause.number),
         b'&' => number(cause.other),
         b'~' => plural(cause.number),
+        b'!' => verb(cause.number),
         b'@' => field_is(kind, line, cause.field),
-        b'%' => cut(part(line, cause.from, cause.len)),
+        b'%' => quoted(part(line, cause.from, cause.len)),
         b'$' => form(kind),
         _ => text(&[sign]),
     }

@@ -8,6 +8,7 @@ use crate::say;
 use c_answers::CallAnswer;
 use c_answers::outcome_numbers;
 use c_answers::read_numbers;
+use causes::meanings::meaning;
 use change::changed;
 use engine::changes::arrive;
 use engine::changes::start;
@@ -16,9 +17,12 @@ use frame::kind::VERIFY_FINAL;
 use leader::leader_of;
 use limits::MOST_BASES;
 use limits::OUTPUT_ROOM;
+use limits::TRAILER_BYTES;
+use limits::refusal::COUNT;
 use node::Node;
 use protocol::Base;
 use protocol::IDLE;
+use protocol::Link;
 use protocol::PRIME;
 
 // On which link a burst arrives, from which base or as if from it.
@@ -78,13 +82,35 @@ fn hears(b: u8, n: u8, burst: &[u8]) {
     say::message(n, burst);
 }
 
-fn refused(b: u8, arrival: Arrival, length: usize, number: u8) {
+fn kind_and_count(kind: u8, count: u8) {
+    output::text(b" (kind ");
+    output::number(kind as usize);
+    output::text(b", count ");
+    output::number(count as usize);
+    output::text(b")");
+}
+
+// Of a burst that is refused for its count: what its trailer says.
+fn trailer(number: u8, burst: &[u8]) {
+    if number != COUNT {
+        return;
+    }
+    if burst.len() < TRAILER_BYTES {
+        return;
+    }
+    let place = burst.len() - TRAILER_BYTES;
+    kind_and_count(burst[place], burst[place + 1]);
+}
+
+fn refused(b: u8, arrival: Arrival, burst: &[u8], number: u8) {
     say::base(b, b" hears ");
-    say::byte_count(length);
+    say::byte_count(burst.len());
     on_link(arrival, b": refused by ");
     output::number(number as usize);
     output::text(b", ");
-    causes::refused(number);
+    meaning(number);
+    trailer(number, burst);
+    output::text(b"\n");
 }
 
 // The message, and why it is discarded.
@@ -125,15 +151,23 @@ pub fn start_call(b: u8, node: Node) {
     );
 }
 
-// A Correct-Final takes the place of a Verify-Final on its link, which held a message of that kind.
-fn accepts(b: u8, n: u8, held: u16, arrival: Arrival, burst: &[u8]) {
+// A Correct-Final takes the place of the Verify-Final that its link held.
+fn replaces(n: u8, held: Link, kind: u8) {
+    if held.held != VERIFY_FINAL as u16 {
+        return;
+    }
+    if kind != CORRECT_FINAL {
+        return;
+    }
+    output::text(b", in place of the link's Verify-Final of");
+    let list = held.list;
+    say::identifiers(list, n as usize);
+}
+
+fn accepts(b: u8, n: u8, held: Link, arrival: Arrival, burst: &[u8]) {
     hears(b, n, burst);
     on_link(arrival, b": accepted");
-    if held == VERIFY_FINAL as u16 {
-        if read_numbers(n as usize, burst).kind == CORRECT_FINAL {
-            output::text(b", in place of the link's Verify-Final");
-        }
-    }
+    replaces(n, held, read_numbers(n as usize, burst).kind);
     output::text(b"\n");
 }
 
@@ -142,7 +176,7 @@ fn heard(b: u8, base: Base, arrival: Arrival, accepted: bool, burst: &[u8]) {
     if base.state == IDLE {
         say::base(b, b" starts\n");
     }
-    let held = link_at(base, arrival.link).held;
+    let held = link_at(base, arrival.link);
     if accepted {
         accepts(b, base.n, held, arrival, burst);
     } else {
@@ -159,7 +193,7 @@ pub fn arrival_call(b: u8, node: Node, arrival: Arrival, burst: &[u8]) {
     let after = changed(base, change);
     let answer = outcome_numbers(outcome);
     if answer.outcome == 0 {
-        return refused(b, arrival, burst.len(), answer.refusal);
+        return refused(b, arrival, burst, answer.refusal);
     }
     heard(b, base, arrival, answer.outcome == 1, burst);
     let caller = caller_of(b, node.count, after);

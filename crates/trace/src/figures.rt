@@ -1,10 +1,13 @@
 // The figures of the checks, beside what they are held against.
+use crate::links::link_at;
 use crate::pairs::suspect_pairs;
 use crate::say;
 use certified::certified_count;
+use certified::link_count;
 use limits::MOST_BASES;
 use protocol::Base;
 use suspects::suspect_count;
+use tally::tally_of;
 use tally::tally_sum;
 use vectors::correct_count;
 use vectors::list_tally;
@@ -32,15 +35,47 @@ fn verdict(state: u8) {
     }
 }
 
+// Words, and `3 of 310`
+fn tally(base: Base, g: u32, words: &[u8]) {
+    output::text(words);
+    output::number(tally_of(base, g));
+    output::text(b" of ");
+    output::number(g as usize);
+}
+
+fn link_tallies(base: Base) {
+    let k = link_count(base.n);
+    let mut i: usize = 0;
+    while i < k {
+        i += 1;
+        tally(base, link_at(base, i).announce, b", ");
+    }
+}
+
+// The tallies behind a sum, where every link has announced an identifier.
+fn tallies(base: Base) {
+    tally(base, base.own, b"  tallies: ");
+    link_tallies(base);
+    output::text(b"\n");
+}
+
 pub(crate) fn prime(b: u8, base: Base) {
     let suspected = suspect_count(base);
+    let certified = certified_count(base);
+    let sum = tally_sum(base);
+    let asked = sum_asked(base.n, base.t);
     say::base(b, b", prime check: certified ");
-    say::needed(certified_count(base), base.n as usize, b"; sum ");
-    say::needed(tally_sum(base), sum_asked(base.n, base.t), b"; suspects ");
+    say::needed(certified, base.n as usize, b"; sum ");
+    say::needed(sum, asked, b"; suspects ");
     output::number(suspected);
     output::text(b", at most ");
     output::number(base.t as usize);
     verdict(base.state);
+    if certified == base.n as usize {
+        if sum < asked {
+            tallies(base);
+        }
+    }
     if 0 < suspected {
         suspect_pairs(b, base);
     }

@@ -13,6 +13,9 @@ fn announce(base: Base, link: Link, g: u32) {
     if has_announce(link) {
         return output::text(b"the link has an Announce\n");
     }
+    if g == base.own {
+        return output::text(b"the identifier is its own\n");
+    }
     if certifies(base, g) {
         return output::text(b"the identifier is certified\n");
     }

@@ -26,15 +26,16 @@ pub fn told(schedule: &[u8], refused: Refused) -> (String, Vec<String>) {
     let line = Line { number: refused.line, before, words: plain(text).split(' ').map(str::to_string).collect() };
     let causes = match refused.number {
         13 if schedule.len() > LONGEST_SCHEDULE => vec!["the schedule has more than 65,536 bytes".to_string()],
-        13 if all.len() < refused.line => vec!["the schedule ends before it".to_string(), line.belongs()],
+        13 if all.len() < refused.line => vec![format!("the schedule ends before line {}", refused.line), line.belongs()],
         13 => {
             let next = all.get(refused.line).copied().unwrap_or_default();
-            let cause = encoding(here, next).or_else(|| bytes(here));
+            let cause = encoding(here, next).or_else(|| comment(here)).or_else(|| bytes(here));
             cause.map_or_else(|| line.form(here.ends_with(b"\n")), |cause| vec![cause])
         }
         number => vec![line.cause(number, schedule)],
     };
-    (format!("line {}: {}", refused.line, shown(text)), causes)
+    let (seen, rest) = cut(text);
+    (format!("line {}: {seen}{rest}", refused.line), causes)
 }
 
 /// A byte a char, without the line feed.
@@ -42,13 +43,31 @@ fn plain(line: &[u8]) -> String {
     line.iter().filter(|&&byte| byte != b'\n').map(|&byte| byte as char).collect()
 }
 
-fn shown(text: &[u8]) -> String {
-    let seen: String = text.iter().take(SHOWN).map(|&byte| visible(byte)).collect();
-    match text.len() {
-        ..=SHOWN => seen,
-        length if length > LONGEST_SCHEDULE => format!("{seen} ... (more than {LONGEST_SCHEDULE} bytes)"),
-        length => format!("{seen} ... ({length} bytes)"),
+/// What is seen of a line or a field, and what is said of the rest.
+fn cut(text: &[u8]) -> (String, String) {
+    let seen = text.iter().take(SHOWN).map(|&byte| visible(byte)).collect();
+    let rest = match text.len() {
+        ..=SHOWN => String::new(),
+        length if length > LONGEST_SCHEDULE => format!(" ... (more than {} bytes)", grouped(LONGEST_SCHEDULE)),
+        length => format!(" ... ({} bytes)", grouped(length)),
+    };
+    (seen, rest)
+}
+
+/// `65,536`
+fn grouped(count: usize) -> String {
+    match count {
+        ..1000 => count.to_string(),
+        _ => format!("{},{:03}", count / 1000, count % 1000),
     }
+}
+
+/// The word in backquotes.
+fn quoted(word: &str) -> String {
+    // a char a byte
+    let bytes: Vec<u8> = word.chars().map(|char| char as u8).collect();
+    let (seen, rest) = cut(&bytes);
+    format!("`{seen}`{rest}")
 }
 
 fn visible(byte: u8) -> String {
@@ -78,6 +97,11 @@ fn encoding(line: &[u8], next: &[u8]) -> Option<String> {
     (text.len() >= 4 && (zeros(0) || zeros(1))).then(|| "the text is in UTF-16, and each sign of a line is one byte".to_string())
 }
 
+fn comment(line: &[u8]) -> Option<String> {
+    let place = line.iter().position(|&byte| byte == b'#')?;
+    Some(format!("byte {} is `#`, and a schedule has no comments", place + 1))
+}
+
 /// Of a line with its line feed: the first byte before it that does not print.
 fn bytes(line: &[u8]) -> Option<String> {
     let place = line.iter().position(|byte| !(b' '..=b'~').contains(byte)).filter(|&place| line[place] != b'\n')?;
@@ -85,7 +109,9 @@ fn bytes(line: &[u8]) -> Option<String> {
         b"\r\n" => "a carriage return (\\r) stands before the line feed".to_string(),
         b"\r" => "a carriage return (\\r) stands at the end, and no line feed".to_string(),
         [b'\r', ..] => format!("byte {} is a carriage return (\\r), and only a line feed ends a line", place + 1),
-        _ => format!("byte {} is {}, which stands in no line", place + 1, visible(line[place])),
+        [b'\t', ..] => format!("byte {} is a tab (\\t), and one space separates two words", place + 1),
+        [byte, ..] if byte.is_ascii() => format!("byte {} is `{}`, a control character, and a line has none", place + 1, visible(*byte)),
+        _ => format!("byte {} is `{}`, and a line has signs of ASCII alone", place + 1, visible(line[place])),
     })
 }
 
@@ -110,20 +136,24 @@ impl Line {
     }
 
     fn is(&self, names: &[&str], i: usize) -> String {
-        format!("{} is {}", names[i - 1], shown(self.word(i).as_bytes()))
+        format!("{} is {}", names[i - 1], quoted(self.word(i)))
     }
 
     fn cause(&self, number: Number, schedule: &[u8]) -> String {
         let (a, b) = (self.base(1), self.base(2));
         match number {
-            1 => format!("n is {}", self.word(1)),
-            2 => format!("t is {b}, and {} is the limit of {a} bases", most_faulty(a)),
+            1 => format!("n is `{}`", self.word(1)),
+            2 => format!("t is `{b}`, and {} is the limit of {a} bases", most_faulty(a)),
             3 => "an identifier is above zero".to_string(),
             14 => {
                 let has_it = |line: &String| line.starts_with("id ") && line.split(' ').nth(2) == Some(self.word(2));
                 format!("line {} has it for another base", self.first(has_it))
             }
-            15 => format!("t is {}, and so many are named before it", self.before[0].split(' ').nth(2).unwrap_or_default()),
+            15 => match self.before[0].split(' ').nth(2).unwrap_or_default() {
+                "0" => "t is 0, so no link may be named faulty".to_string(),
+                "1" => "t is 1, and 1 is named already".to_string(),
+                t => format!("t is {t}, and {t} are named already"),
+            },
             16 => format!("up to here base {a} has broadcast {}", counted(self.broadcasts(schedule, a), "message")),
             17 => format!("line {} is that carry", self.first(|line| *line == self.words.join(" "))),
             _ => format!("the header has no line `faulty {} {}`", a.min(b), a.max(b)),
@@ -166,14 +196,21 @@ impl Line {
         if (word, fields) == ("forge", 2) && [1, 2].iter().all(|&i| self.is_base(i)) {
             causes.push("the space before hex stands even where there are no bytes".to_string());
         }
+        if word == "forge" && fields > 3 {
+            causes.push("the digits of hex stand together".to_string());
+        }
         causes
     }
 
     fn unknown(&self) -> String {
-        match self.words.join(" ").is_empty() {
-            true => "the line is empty".to_string(),
-            false => format!("there is no word {}, only net, id, faulty, start, carry and forge", shown(self.word(0).as_bytes())),
+        let word = self.word(0);
+        if self.words.join(" ").is_empty() {
+            return "the line is empty".to_string();
         }
+        if word.chars().any(|char| char.is_ascii_uppercase()) {
+            return format!("the word is {}, and words are in small letters", quoted(word));
+        }
+        format!("there is no word {}, only `net`, `id`, `faulty`, `start`, `carry` and `forge`", quoted(word))
     }
 
     fn spaces(&self) -> Option<String> {
@@ -197,7 +234,6 @@ impl Line {
         let events = self.before.iter().any(|line| ["start ", "carry ", "forge "].iter().any(|event| line.starts_with(event)));
         match word {
             "net" => Some("the net is named in line 1".to_string()),
-            "id" => Some(format!("each of the {n} bases has its line `id b v`")),
             "faulty" if events => Some("faulty links are named before the first event".to_string()),
             _ => None,
         }
@@ -207,7 +243,7 @@ impl Line {
     fn number_fault(&self, i: usize) -> Option<&'static str> {
         let value = self.word(i);
         if value.is_empty() || !value.bytes().all(|byte| byte.is_ascii_digit()) {
-            return Some("which is no decimal number");
+            return Some("not digits alone");
         }
         if value.len() > 1 && value.starts_with('0') {
             return Some("with a leading zero");
@@ -235,18 +271,23 @@ impl Line {
             return None;
         }
         if let Some(place) = digits.bytes().position(|byte| !matches!(byte, b'0'..=b'9' | b'a'..=b'f')) {
-            return Some(format!("digit {} of hex is {}, not 0 to 9 or a to f", place + 1, visible(digits.as_bytes()[place])));
+            let sign = digits.as_bytes()[place];
+            let fault = if sign.is_ascii_uppercase() { ", and hex is in small letters" } else { ", not 0 to 9 or a to f" };
+            return Some(format!("digit {} of hex is `{}`{fault}", place + 1, visible(sign)));
         }
-        if digits.len() % 2 == 1 {
-            return Some(format!("hex has {}, and a byte has two", counted(digits.len(), "digit")));
+        if digits.len() > 2 * LONGEST_FORGERY {
+            return Some(format!("hex has more than {LONGEST_FORGERY} bytes"));
         }
-        (digits.len() / 2 > LONGEST_FORGERY).then(|| format!("hex has {} bytes, and {LONGEST_FORGERY} are the most", digits.len() / 2))
+        (digits.len() % 2 == 1).then(|| format!("hex has {}, and a byte has two", counted(digits.len(), "digit")))
     }
 
     fn against_the_net(&self, word: &str, names: &[&str]) -> String {
         let n = self.n();
-        if word == "id" {
+        if word == "id" && self.number <= n + 1 {
             return format!("{}, and this is the line of base {}", self.is(names, 1), self.number - 1);
+        }
+        if word == "id" && self.is_base(1) {
+            return format!("base {} has its line already, line {}", self.base(1), self.base(1) + 1);
         }
         for i in (1..=names.len()).filter(|&i| ["a", "b"].contains(&names[i - 1])) {
             if !self.is_base(i) {

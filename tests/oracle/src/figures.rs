@@ -15,18 +15,31 @@ pub fn told(at: usize, base: &Base, message: &Message) -> Vec<String> {
     };
     match message {
         Message::CorrectFinal(list) | Message::VerifyFinal(list) => {
-            let ids: Vec<String> = list.iter().map(u32::to_string).collect();
             let (tally, corrects) = (base.list_tally(list), base.correct_finals(list));
             let figures = format!("tally {tally}, {} needed; Correct-Finals {corrects}, 2 needed", base.t + 1);
-            vec![format!("  base {at}, secondary check of {}: {figures}; {verdict}", ids.join(" "))]
+            vec![format!("  base {at}, secondary check of {}: {figures}; {verdict}", listed(list))]
         }
         Message::Announce(_) | Message::Verify(_) => {
             let (found, n, t) = (base.prime_figures(), base.n, base.t);
             let sum = format!("sum {}, {} needed", found.sum, n * n - 2 * t);
             let line = format!("certified {}, {n} needed; {sum}; suspects {}, at most {t}; {verdict}", found.certified, found.suspects);
-            std::iter::once(format!("  base {at}, prime check: {line}")).chain(suspects(at, base)).collect()
+            let short = found.certified == n && found.sum < n * n - 2 * t;
+            let tallies = short.then(|| tallies(base));
+            std::iter::once(format!("  base {at}, prime check: {line}")).chain(tallies).chain(suspects(at, base)).collect()
         }
     }
+}
+
+pub fn listed(list: &[u32]) -> String {
+    let ids: Vec<String> = list.iter().map(u32::to_string).collect();
+    ids.join(" ")
+}
+
+/// `  tallies: 3 of 310, 2 of 120, ..`
+fn tallies(base: &Base) -> String {
+    let verified = |id| base.links.iter().filter(|link| link.verifies.contains(id)).count();
+    let each: Vec<String> = base.certified().iter().map(|id| format!("{} of {id}", verified(id) + 1)).collect();
+    format!("  tallies: {}", each.join(", "))
 }
 
 /// `  suspect: 310 and 120 (link 1 from base 1 lacks Verify 120); ..`

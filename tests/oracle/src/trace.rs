@@ -29,6 +29,8 @@ enum Outcome {
     /// A Correct-Final, in place of the link's Verify-Final.
     Replaced,
     Discarded(Discard),
+    /// An Announce of the base's own identifier, which is certified.
+    Own,
     Refused(Number),
 }
 
@@ -43,11 +45,17 @@ const REASONS: [(Discard, &str); 7] = [
     (Discard::VectorMessageHeld, "the link holds a vector message"),
 ];
 
-/// A line with an event: what became of it, and what the trace says of the check behind it.
+const OWN: &str = "the identifier is its own";
+/// Behind `accepted`, and before the list of the message that gave way.
+const REPLACED: &str = "accepted, in place of the link's Verify-Final of ";
+
+/// A line with an event: what became of it; the list that gave way, or a refused burst's kind and count; and what the trace says of the
+/// check behind it.
 #[derive(Debug, PartialEq, Eq)]
 struct Told {
     line: usize,
     outcome: Outcome,
+    detail: String,
     check: Vec<String>,
 }
 
@@ -114,7 +122,8 @@ impl Compared {
 
     fn print(&self) -> bool {
         let every = REASONS.iter().map(|&(reason, _)| Outcome::Discarded(reason)).chain((7..=12).map(Outcome::Refused));
-        let every: Vec<Outcome> = every.chain([Outcome::Accepted, Outcome::Replaced, Outcome::Discarded(Discard::HasStarted)]).collect();
+        let every: Vec<Outcome> =
+            every.chain([Outcome::Accepted, Outcome::Replaced, Outcome::Own, Outcome::Discarded(Discard::HasStarted)]).collect();
         for outcome in &every {
             println!("  {:>10}  {outcome:?}", self.counts.get(outcome).unwrap_or(&0));
         }
@@ -161,37 +170,47 @@ fn by_the_model(schedule: &[u8]) -> Outcomes {
     let mut outcomes = Vec::new();
     // A refused schedule has been watched up to its refused line.
     let _ = replay::watched(schedule, Fault::None, &mut |line, net, event| {
-        let (outcome, check) = outcome(net, event);
-        outcomes.push(Told { line, outcome, check });
+        outcomes.push(told(line, net, event));
     });
     outcomes
 }
 
-fn outcome(net: &Net, event: &Event) -> (Outcome, Vec<String>) {
+fn told(line: usize, net: &Net, event: &Event) -> Told {
     let at = event.receiver();
-    let refused = |number| (Outcome::Refused(number), Vec::new());
+    let of = |outcome, detail| Told { line, outcome, detail, check: Vec::new() };
+    let refused = |number| of(Outcome::Refused(number), String::new());
     let mut base = match Base::admit(&net.records[at - 1], Fault::None) {
         Ok(base) => base,
         Err(number) => return refused(number),
     };
     let (from, burst) = match event {
-        Event::Start { .. } => return (base.start().discarded.map_or(Outcome::Accepted, Outcome::Discarded), Vec::new()),
+        Event::Start { .. } => return of(base.start().discarded.map_or(Outcome::Accepted, Outcome::Discarded), String::new()),
         Event::Carry { from, k, .. } => (*from, &net.logs[from - 1][k - 1]),
         Event::Forge { from, bytes, .. } => (*from, bytes),
     };
     let frame = match read(base.n, burst, Fault::None) {
         Ok(frame) => frame,
-        Err(number) => return refused(number),
+        Err(number) => return of(Outcome::Refused(number), trailer(number, burst)),
     };
     let link = link_to(at, from) - 1;
     let held = base.links[link].vector.clone();
+    let own = matches!(frame.message, Message::Announce(id) if id == base.own);
     let accepted = match (&frame.message, held) {
-        (Message::CorrectFinal(_), Some((Vote::VerifyFinal, _))) => Outcome::Replaced,
-        _ => Outcome::Accepted,
+        (Message::CorrectFinal(_), Some((Vote::VerifyFinal, list))) => of(Outcome::Replaced, figures::listed(&list)),
+        _ => of(Outcome::Accepted, String::new()),
     };
     match base.arrive(link, frame.message.clone()).discarded {
-        Some(reason) => (Outcome::Discarded(reason), Vec::new()),
-        None => (accepted, figures::told(at, &base, &frame.message)),
+        Some(Discard::Certified) if own => of(Outcome::Own, String::new()),
+        Some(reason) => of(Outcome::Discarded(reason), String::new()),
+        None => Told { check: figures::told(at, &base, &frame.message), ..accepted },
+    }
+}
+
+/// Of a burst that is refused for its count.
+fn trailer(number: Number, burst: &[u8]) -> String {
+    match burst {
+        [.., kind, count, _, _] if number == 9 => format!("kind {kind}, count {count}"),
+        _ => String::new(),
     }
 }
 
@@ -213,35 +232,43 @@ fn by_the_trace(trace: &str) -> Result<Outcomes, String> {
         if let Some((number, _)) = text.strip_prefix("line ").and_then(|rest| rest.split_once(": ")) {
             line = number.parse().map_err(|_| format!("no line of a schedule: {text}"))?;
         }
-        let is_check = text.contains(" check: ") || text.contains(" check of ") || text.starts_with("  suspect: ");
+        let behind_the_check = ["  tallies: ", "  suspect: "].iter().any(|begin| text.starts_with(begin));
+        let is_check = text.contains(" check: ") || text.contains(" check of ") || behind_the_check;
         if let (true, Some(told)) = (is_check, outcomes.last_mut()) {
             told.check.push(text.to_string());
         }
         let Some(outcome) = text.strip_prefix("  base ").and_then(told_outcome) else { continue };
         // An idle base starts before it hears.
         outcomes.retain(|told| told.line != line);
-        let outcome = outcome.map_err(|reason| format!("the model knows no reason {reason:?}"))?;
-        outcomes.push(Told { line, outcome, check: Vec::new() });
+        let (outcome, detail) = outcome.map_err(|reason| format!("the model knows no reason {reason:?}"))?;
+        outcomes.push(Told { line, outcome, detail, check: Vec::new() });
     }
     Ok(outcomes)
 }
 
 /// Of a line that says what became of an event; or the words of a reason that there is not.
-fn told_outcome(text: &str) -> Option<Result<Outcome, String>> {
+fn told_outcome(text: &str) -> Option<Result<(Outcome, String), String>> {
+    let plain = |outcome| Some(Ok((outcome, String::new())));
     let said = text.split_once(" on link ").and_then(|(_, rest)| rest.split_once(": ")).map(|(_, said)| said);
     match said {
-        None if text.ends_with(" starts") => Some(Ok(Outcome::Accepted)),
-        None if text.ends_with(" has started: discarded") => Some(Ok(Outcome::Discarded(Discard::HasStarted))),
+        None if text.ends_with(" starts") => plain(Outcome::Accepted),
+        None if text.ends_with(" has started: discarded") => plain(Outcome::Discarded(Discard::HasStarted)),
         None => None,
-        Some("accepted") => Some(Ok(Outcome::Accepted)),
-        Some("accepted, in place of the link's Verify-Final") => Some(Ok(Outcome::Replaced)),
+        Some("accepted") => plain(Outcome::Accepted),
         Some(said) => Some(told_reason(said)),
     }
 }
 
-/// `discarded, the link has an Announce` or `refused by 7, ..`
-fn told_reason(said: &str) -> Result<Outcome, String> {
-    let number = said.strip_prefix("refused by ").and_then(|rest| rest.split(',').next()?.parse().ok());
-    let reason = said.strip_prefix("discarded, ").and_then(|words| REASONS.iter().find(|(_, known)| *known == words));
-    reason.map(|&(reason, _)| Outcome::Discarded(reason)).or(number.map(Outcome::Refused)).ok_or(said.to_string())
+/// `discarded, the link has an Announce`, `refused by 7, ..`, `refused by 9, .. (kind 1, count 2)` or what a message takes the place of
+fn told_reason(said: &str) -> Result<(Outcome, String), String> {
+    if let Some(list) = said.strip_prefix(REPLACED) {
+        return Ok((Outcome::Replaced, list.to_string()));
+    }
+    if let Some(number) = said.strip_prefix("refused by ").and_then(|rest| rest.split(',').next()?.parse().ok()) {
+        let trailer = said.split_once(" (").map_or("", |(_, trailer)| trailer.trim_end_matches(')'));
+        return Ok((Outcome::Refused(number), trailer.to_string()));
+    }
+    let words = said.strip_prefix("discarded, ").ok_or(said)?;
+    let reason = REASONS.iter().find(|(_, known)| *known == words).map(|&(reason, _)| Outcome::Discarded(reason));
+    reason.or((words == OWN).then_some(Outcome::Own)).map(|outcome| (outcome, String::new())).ok_or(said.to_string())
 }
