@@ -10,7 +10,7 @@
 #include <ucontext.h>
 
 #define N ROSTER_MOST_BASES
-#define T ((N - 2) / 2)
+#define T ROSTER_MOST_FAULTY(N)
 
 enum { STACK = 1 << 21, PAINT = 0xC7 };
 

@@ -4,7 +4,7 @@
 #include <string.h>
 
 #define N ROSTER_MOST_BASES
-#define T ((N - 2) / 2)
+#define T ROSTER_MOST_FAULTY(N)
 
 static int failures;
 

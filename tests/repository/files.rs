@@ -34,11 +34,15 @@ fn walk(folder: &Path, ending: &str, found: &mut Vec<File>) {
     }
 }
 
-/// The names that crates.txt lists.
-pub fn crate_names() -> Result<Vec<String>, String> {
+/// The names that crates.txt lists, each with what it stands on.
+pub fn crates() -> Result<Vec<(String, Vec<String>)>, String> {
     let text = text_of("crates.txt")?;
-    let lines = text.lines().filter(|line| !line.starts_with('#'));
-    Ok(lines.filter_map(|line| line.split_once(':')).map(|(name, _)| name.trim().to_string()).collect())
+    let lines = text.lines().filter(|line| !line.starts_with('#')).filter_map(|line| line.split_once(':'));
+    Ok(lines.map(|(name, others)| (name.trim().to_string(), others.split_whitespace().map(str::to_string).collect())).collect())
+}
+
+pub fn crate_names() -> Result<Vec<String>, String> {
+    Ok(crates()?.into_iter().map(|(name, _)| name).collect())
 }
 
 /// `crates/NAME/specs/X.antt` without its first folder.

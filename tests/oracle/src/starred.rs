@@ -11,7 +11,8 @@ use crate::schedule::render;
 use crate::twelve;
 use Message::{Announce, CorrectFinal, Verify, VerifyFinal};
 
-/// Arrivals at a base of identifier 10 whose links announce 20, 30, 40, ...; the last one's answer, and what the record is then.
+/// Arrivals at a base of identifier 10 whose links announce 20, 30, 40, ...; the last one's answer, and what the record is before and
+/// after it.
 pub struct Starred {
     pub name: &'static str,
     pub n: usize,
@@ -19,10 +20,11 @@ pub struct Starred {
     pub arrivals: Vec<(usize, Message)>,
     pub answer: Answer,
     pub state: u8,
+    pub before: Vec<Figure>,
     pub figures: Vec<Figure>,
 }
 
-/// A figure of the record after the last arrival.
+/// A figure of the record.
 pub enum Figure {
     Prime(PrimeFigures),
     ListTally(Vec<u32>, usize),
@@ -57,19 +59,20 @@ fn four_certified(missing: &[(usize, u32)]) -> Vec<(usize, Message)> {
 fn prime_case(name: &'static str, missing: &[(usize, u32)], answer: Answer, sum: usize, suspects: usize) -> Starred {
     let state = if answer == RUNS_ON { 1 } else { 2 };
     let figures = vec![Figure::Prime(PrimeFigures { certified: 4, sum, suspects })];
-    Starred { name, n: 4, t: 1, arrivals: four_certified(missing), answer, state, figures }
+    Starred { name, n: 4, t: 1, arrivals: four_certified(missing), answer, state, before: Vec::new(), figures }
 }
 
 /// Vector messages at a base of n; the state and the tally of the true list that they end with.
 fn vote_case(name: &'static str, n: usize, arrivals: Vec<(usize, Message)>, answer: Answer, (state, tally): (u8, usize)) -> Starred {
-    Starred { name, n, t: most_faulty(n), arrivals, answer, state, figures: vec![Figure::ListTally(v(n), tally)] }
+    let figures = vec![Figure::ListTally(v(n), tally)];
+    Starred { name, n, t: most_faulty(n), arrivals, answer, state, before: Vec::new(), figures }
 }
 
 /// A link of one of four bases that holds `count` identifiers, one of them announced, when the last of them or one more comes.
 fn list_case(name: &'static str, verifies: u32, answer: Answer, count: usize) -> Starred {
     let mut arrivals = vec![(1, Announce(20))];
     arrivals.extend((1..=verifies).map(|i| (1, Verify(100 + i))));
-    Starred { name, n: 4, t: 1, arrivals, answer, state: 1, figures: vec![Figure::Held { link: 1, count }] }
+    Starred { name, n: 4, t: 1, arrivals, answer, state: 1, before: Vec::new(), figures: vec![Figure::Held { link: 1, count }] }
 }
 
 pub fn cases() -> Vec<Starred> {
@@ -99,6 +102,7 @@ fn vote_cases() -> Vec<Starred> {
     let (one, two) = (Answer::Accepted([28, 0, 0]), Answer::Accepted([20, 20, 0]));
     let mut falls = vote_case("Correct-Final V over Verify-Final U: U's tally falls", 4, vec![other(1, 4), other(2, 4)], RUNS_ON, (1, 1));
     falls.arrivals.push(correct(1, 4));
+    falls.before.push(Figure::ListTally(u(4), 2));
     falls.figures.push(Figure::ListTally(u(4), 1));
     vec![
         vote_case("two Correct-Final V: secondary", 4, vec![correct(1, 4), correct(2, 4)], two, (3, 2)),
@@ -114,7 +118,7 @@ fn vote_cases() -> Vec<Starred> {
 }
 
 fn other_cases() -> Vec<Starred> {
-    let started = |answer, arrivals| Starred { name: "", n: 4, t: 1, arrivals, answer, state: 1, figures: Vec::new() };
+    let started = |answer, arrivals| Starred { name: "", n: 4, t: 1, arrivals, answer, state: 1, before: Vec::new(), figures: Vec::new() };
     vec![
         Starred { name: "own Announce arriving: discarded", ..started(DISCARDED, vec![(1, Verify(7)), (1, Announce(10))]) },
         Starred {
@@ -134,18 +138,22 @@ fn other_cases() -> Vec<Starred> {
 pub fn wrong(case: &Starred, engine: &mut dyn Engine) -> Option<String> {
     let mut record = RawBase::BLANK;
     engine.idle(case.n, case.t, 10, &mut record);
-    let mut answer = Answer::Refused(0);
+    let (mut answer, mut before) = (Answer::Refused(0), None);
     for (link, message) in &case.arrivals {
+        before = wrong_figures(&case.before, &record);
         answer = engine.arrive(&mut record, *link, &message.frame(), &mut [0; OUTPUT_ROOM]);
     }
     if answer != case.answer || record.state != case.state {
         return Some(format!("{answer:?} and state {}, expected {:?} and state {}", record.state, case.answer, case.state));
     }
-    let base = match Base::admit(&record, Fault::None) {
-        Ok(base) => base,
-        Err(number) => return Some(format!("the record is refused by {number}")),
-    };
-    case.figures.iter().find_map(|figure| wrong_figure(figure, &base))
+    before.map(|what| format!("before the last arrival: {what}")).or_else(|| wrong_figures(&case.figures, &record))
+}
+
+fn wrong_figures(figures: &[Figure], record: &RawBase) -> Option<String> {
+    match Base::admit(record, Fault::None) {
+        Ok(base) => figures.iter().find_map(|figure| wrong_figure(figure, &base)),
+        Err(number) => Some(format!("the record is refused by {number}")),
+    }
 }
 
 fn wrong_figure(figure: &Figure, base: &Base) -> Option<String> {

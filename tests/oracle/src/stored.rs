@@ -5,6 +5,9 @@ use crate::replay;
 use std::fs;
 use std::path::{Path, PathBuf};
 
+/// So many schedules are stored. Where fewer are found, some are lost.
+const FEWEST: usize = 112;
+
 /// Every schedule below a folder, in order of its path.
 pub fn schedules(folder: &Path) -> Vec<PathBuf> {
     let mut found = Vec::new();
@@ -19,13 +22,13 @@ pub fn schedules(folder: &Path) -> Vec<PathBuf> {
     found
 }
 
-/// True where every report is as stored, and there is one.
+/// True where every report is as stored, and none is missing.
 pub fn run(folder: &str) -> bool {
     let paths = schedules(Path::new(folder));
     let wrong: Vec<String> = paths.iter().filter_map(|path| difference(path)).collect();
     wrong.iter().for_each(|what| println!("{what}"));
-    println!("{} stored reports, {} other than the model's", paths.len(), wrong.len());
-    wrong.is_empty() && !paths.is_empty()
+    println!("{} stored reports, {FEWEST} at least, {} other than the model's", paths.len(), wrong.len());
+    wrong.is_empty() && paths.len() >= FEWEST
 }
 
 fn difference(path: &Path) -> Option<String> {

@@ -3,7 +3,7 @@
 use crate::case::Case;
 use crate::generate::bursts;
 use crate::generate::histories;
-use crate::limits::{FEWEST_BASES, LONGEST_FORGERY, MOST_BASES, REPORT_ROOM};
+use crate::limits::{most_faulty, FEWEST_BASES, LONGEST_FORGERY, MOST_BASES, REPORT_ROOM};
 use crate::rng::Rng;
 use crate::schedule::render;
 
@@ -27,7 +27,7 @@ pub fn text(rng: &mut Rng) -> Vec<u8> {
 /// A small schedule in which most lines are right.
 fn line_by_line(rng: &mut Rng) -> Vec<u8> {
     let n = if rng.chance(1, 15) { rng.below(MOST_BASES + 4) } else { rng.within(FEWEST_BASES, 5) };
-    let t = if rng.chance(1, 15) { rng.below(4) } else { n.saturating_sub(2) / 2 };
+    let t = if rng.chance(1, 15) { rng.below(4) } else { most_faulty(n.max(FEWEST_BASES)) };
     let mut text = format!("net {n} {t}\n");
     let listed = if rng.chance(1, 15) { rng.within(0, n + 1) } else { n };
     for b in 1..=listed {
