@@ -32,6 +32,9 @@ fn main() {
         let answer = roster::start(&mut bases[i], &mut out);
         broadcast(&mut air, i + 1, &answer, &out);
     }
+    // a loss of power: of each base stands what was stored of it
+    let stored: Vec<[u8; roster::BASE_BYTES]> = bases.iter().map(|base| *base.as_bytes()).collect();
+    let mut bases: Vec<Base> = stored.iter().map(restored).collect();
     let mut k = 0;
     while k < air.len() {
         let (from, frame) = air[k].clone();
@@ -48,6 +51,13 @@ fn main() {
     for (i, base) in bases.iter_mut().enumerate() {
         show(i + 1, base);
     }
+}
+
+/// A stored record that is damaged is turned down by 1 to 4, by the leader's call as by any other.
+fn restored(bytes: &[u8; roster::BASE_BYTES]) -> Base {
+    let mut base = Base::from_bytes(bytes);
+    assert_eq!(roster::leader(&mut base).refusal, 0, "a damaged record");
+    base
 }
 
 /// The list and the leader stand once the base has stopped, and not before.

@@ -31,6 +31,9 @@
  * Keep the record, the frames that are not yet sent, and ROSTER_VERSION beside them, through a loss of power: a base that forgets its
  * record and starts again in the same net is outside everything that was proved. Store the record and the frames of a call together, in
  * one step, before the first of them is sent.
+ * The record may be stored as its bytes, all of which belong to fields. A record that is read back and is not sound is turned down by 4
+ * (by 1 to 3 for its n, t or own identifier); roster_leader tells so without changing it. A sound one is taken for the base's own:
+ * whether it is the one that the last call left is the storage's to say.
  */
 #ifndef ROSTER_H
 #define ROSTER_H

@@ -111,6 +111,29 @@ pub struct Base {
     pub links: [Link; MOST_LINKS],
 }
 
+/// Bytes of a base's record.
+pub const BASE_BYTES: usize = core::mem::size_of::<Base>();
+
+impl Base {
+    /// The record's bytes, to be stored: those of C's `roster_base` on the same machine.
+    #[inline]
+    #[must_use]
+    pub fn as_bytes(&self) -> &[u8; BASE_BYTES] {
+        // Safety: every byte of a record belongs to a field (tests/layout), so none is unset, and bytes need no alignment.
+        unsafe { &*core::ptr::from_ref(self).cast() }
+    }
+
+    /// The record that was stored. Any bytes make one that the calls may be lent: where it is not sound it is turned down by 4, or by 1 to
+    /// 3 for its n, t or own identifier, and [`leader`] tells so without changing it. A sound one is taken for the base's own: whether it
+    /// is the one that the last call left is the storage's to say.
+    #[inline]
+    #[must_use]
+    pub fn from_bytes(bytes: &[u8; BASE_BYTES]) -> Base {
+        // Safety: each field takes any value of its bits, and what is read need not be aligned.
+        unsafe { core::ptr::read_unaligned(bytes.as_ptr().cast()) }
+    }
+}
+
 #[repr(C)]
 #[derive(Clone, Copy, Debug, PartialEq, Eq)]
 pub struct Made {

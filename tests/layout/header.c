@@ -2,6 +2,7 @@
 #include "roster.h"
 #include <stdalign.h>
 #include <stdio.h>
+#include <string.h>
 
 #define NUMBER(name) printf("%s %llu\n", #name, (unsigned long long)ROSTER_##name)
 #define RECORD(name) printf("%s %zu bytes, aligned to %zu\n", #name, sizeof(roster_##name), alignof(roster_##name))
@@ -24,9 +25,32 @@ static void numbers(void)
     NUMBER(REFUSAL_FAULTY_LINKS), NUMBER(REFUSAL_NOT_BROADCAST), NUMBER(REFUSAL_CARRIED_BEFORE), NUMBER(REFUSAL_FORGED_ON_GOOD);
 }
 
+/* A record whose fields differ, and all of whose bytes count by their place. */
+static void stored(void)
+{
+    roster_base base = {.n = 1, .t = 2, .state = 3, .sent = 4, .own = 0x05060708};
+    uint8_t bytes[sizeof base];
+    unsigned long long sum = 0;
+    for (uint32_t k = 0; k < ROSTER_MOST_BASES; k++)
+        base.final_list[k] = 0x01000100 + k;
+    for (uint32_t i = 0; i < ROSTER_MOST_LINKS; i++) {
+        roster_link *link = &base.links[i];
+        link->announce = 0x02000200 + i, link->verify_count = (uint16_t)(0x300 + i), link->held = (uint16_t)(0x400 + i);
+        for (uint32_t k = 0; k < ROSTER_LIST_ROOM; k++)
+            link->verifies[k] = 0x05000500 + i * k;
+        for (uint32_t k = 0; k < ROSTER_MOST_BASES; k++)
+            link->list[k] = 0x06000600 + i * k;
+    }
+    memcpy(bytes, &base, sizeof base);
+    for (size_t place = 0; place < sizeof bytes; place++)
+        sum += (place + 1) * bytes[place];
+    printf("stored: %zu bytes, by their places %llu\n", sizeof bytes, sum);
+}
+
 int main(void)
 {
     numbers();
+    stored();
     RECORD(link), FIELD(link, announce), FIELD(link, verifies), FIELD(link, list), FIELD(link, verify_count), FIELD(link, held);
     RECORD(base), FIELD(base, n), FIELD(base, t), FIELD(base, state), FIELD(base, sent), FIELD(base, own);
     FIELD(base, final_list), FIELD(base, links);

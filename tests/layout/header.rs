@@ -17,6 +17,28 @@ macro_rules! record {
     };
 }
 
+/// As header.c does, through the bytes and back from a place that is not aligned.
+fn stored() {
+    let link = Link { announce: 0, verifies: [0; LIST_ROOM], list: [0; MOST_BASES], verify_count: 0, held: 0 };
+    let mut base = Base { n: 1, t: 2, state: 3, sent: 4, own: 0x05060708, final_list: [0; MOST_BASES], links: [link; MOST_LINKS] };
+    base.final_list = std::array::from_fn(|k| 0x01000100 + k as u32);
+    base.links = std::array::from_fn(|i| Link {
+        announce: 0x02000200 + i as u32,
+        verifies: std::array::from_fn(|k| 0x05000500 + (i * k) as u32),
+        list: std::array::from_fn(|k| 0x06000600 + (i * k) as u32),
+        verify_count: 0x300 + i as u16,
+        held: 0x400 + i as u16,
+    });
+    let sum: u64 = base.as_bytes().iter().zip(1..).map(|(&byte, place)| place * u64::from(byte)).sum();
+    println!("stored: {BASE_BYTES} bytes, by their places {sum}");
+    for shift in 0..align_of::<Base>() {
+        let mut room = [0u8; BASE_BYTES + align_of::<Base>()];
+        room[shift..shift + BASE_BYTES].copy_from_slice(base.as_bytes());
+        let bytes: &[u8; BASE_BYTES] = room[shift..shift + BASE_BYTES].try_into().unwrap();
+        assert_eq!(Base::from_bytes(bytes), base, "read back from {shift} bytes further on");
+    }
+}
+
 fn main() {
     numbers!(VERSION FEWEST_BASES MOST_BASES MOST_LINKS LIST_ROOM LONGEST_FRAME);
     numbers!(OUTPUT_ROOM SHORTEST_BURST LONGEST_BURST LONGEST_SCHEDULE LINE_ROOM REPORT_ROOM);
@@ -30,6 +52,7 @@ fn main() {
     numbers!(REFUSAL_OUTPUT REFUSAL_BURST REFUSAL_KIND REFUSAL_COUNT REFUSAL_BACK_DISTANCE);
     numbers!(REFUSAL_ZERO_IDENTIFIER REFUSAL_NOT_ASCENDING REFUSAL_FORM REFUSAL_SAME_IDENTIFIER);
     numbers!(REFUSAL_FAULTY_LINKS REFUSAL_NOT_BROADCAST REFUSAL_CARRIED_BEFORE REFUSAL_FORGED_ON_GOOD);
+    stored();
     record!(Link link: announce verifies list verify_count held);
     record!(Base base: n t state sent own final_list links);
     record!(Made made: refusal base);

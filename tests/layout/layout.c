@@ -162,9 +162,25 @@ static void fields(void)
     check("two idle records that differ under memcmp", memcmp(&first, &second, sizeof first) != 0, 0);
 }
 
+/* A stored record that is read back damaged is turned down, and left as it was read. */
+static void read_back(void)
+{
+    uint8_t bytes[sizeof(roster_base)];
+    roster_base base = roster_idle(N, T, 1000).base, damaged;
+    memcpy(bytes, &base, sizeof bytes);
+    memcpy(&base, bytes, sizeof bytes);
+    check("a record read back", roster_leader(&base).refusal, 0);
+    bytes[offsetof(roster_base, links) + offsetof(roster_link, held)] = ROSTER_VERIFY_FINAL + 1;
+    memcpy(&base, bytes, sizeof bytes);
+    damaged = base;
+    check("a record read back damaged", roster_leader(&base).refusal, ROSTER_REFUSAL_RECORD);
+    check("a damaged record that was changed", memcmp(&base, &damaged, sizeof base) != 0, 0);
+}
+
 int main(void)
 {
     fields();
+    read_back();
     record();
     answers();
     nothing_lent();
