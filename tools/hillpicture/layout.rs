@@ -207,12 +207,12 @@ pub fn broken_to(text: &str, size: i32, width: i32) -> Vec<String> {
     lines
 }
 
-/// The length of what stays together at the front: `\xNN`, `\r`, ` ... (302 bytes)` at the end, or else one sign.
+/// The length of what stays together at the front: `\xNN`, `\r`, ` (302 bytes)` at the end, or else one sign.
 fn unit(text: &str) -> usize {
     let signs = match text.as_bytes() {
         [b'\\', b'x', ..] => 4,
         [b'\\', ..] => 2,
-        _ if text.starts_with(" ... (") && text.ends_with(" bytes)") => text.chars().count(),
+        _ if text.starts_with(" (") && text.ends_with(" bytes)") => text.chars().count(),
         _ => 1,
     };
     text.chars().take(signs).map(char::len_utf8).sum()

@@ -12,8 +12,9 @@ use output::parts::part;
 use output::text;
 use output::visible;
 
-// Bytes of a line that are shown.
+// Bytes of a line that are shown, and those of them that are its last.
 const SHOWN: usize = 80;
+const LAST: usize = 20;
 
 // The digit of a number that counts so many.
 fn digit(v: usize, of: usize) {
@@ -34,12 +35,33 @@ fn length(v: usize) {
     digit(v, 1);
 }
 
-// Of a line that is cut. Of a longer schedule no more is read than shows that it is longer.
-fn rest(bytes: &[u8]) {
+// The last bytes of a line that is cut. Of a schedule that is too long no more is read than shows that it is.
+fn last(bytes: &[u8]) {
+    if LONGEST_SCHEDULE < bytes.len() {
+        return;
+    }
+    text(b" ");
+    if LAST < bytes.len() {
+        visible(part(bytes, bytes.len() - LAST, LAST));
+    }
+}
+
+// Every byte, or the first and the last of a line that is long.
+fn seen(bytes: &[u8]) {
+    if bytes.len() <= SHOWN {
+        return visible(bytes);
+    }
+    visible(part(bytes, 0, SHOWN - LAST));
+    text(b" ...");
+    last(bytes);
+}
+
+// How long a line is that is cut.
+fn size(bytes: &[u8]) {
     if bytes.len() <= SHOWN {
         return;
     }
-    text(b" ... (");
+    text(b" (");
     if LONGEST_SCHEDULE < bytes.len() {
         text(b"more than 65,536");
     } else {
@@ -50,16 +72,16 @@ fn rest(bytes: &[u8]) {
 
 // A line, such that every byte is seen, and not too long.
 pub(crate) fn cut(bytes: &[u8]) {
-    visible(part(bytes, 0, SHOWN));
-    rest(bytes);
+    seen(bytes);
+    size(bytes);
 }
 
 // A part of a line as it stands.
 fn quoted(bytes: &[u8]) {
     text(b"`");
-    visible(part(bytes, 0, SHOWN));
+    seen(bytes);
     text(b"`");
-    rest(bytes);
+    size(bytes);
 }
 
 // `1 field`, `2 fields`

@@ -4,14 +4,15 @@ use crate::links::link_at;
 use certified::link_count;
 use held::has_announce;
 use held::holds_verify;
+use limits::MOST_BASES;
 use output::number;
 use output::parts::plus;
 use output::text;
 use protocol::Base;
 use protocol::Link;
 
-// Pairs that are named: all of a net of four bases.
-const NAMED: usize = 6;
+// Pairs that are named: as many as t can be, and the one that is too many.
+const NAMED: usize = MOST_BASES / 2;
 
 // Whether a link that has an Announce lacks a Verify.
 fn lacks(link: Link, g: u32) -> bool {

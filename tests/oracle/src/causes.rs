@@ -7,6 +7,7 @@ use crate::replay::{self, Refused};
 
 /// Bytes of a line or a field that the trace shows.
 const SHOWN: usize = 80;
+const LAST: usize = 20;
 /// The words of lines, with the names of their fields.
 const FORMS: [(&str, &[&str]); 6] = [
     ("net", &["n", "t"]),
@@ -45,13 +46,15 @@ fn plain(line: &[u8]) -> String {
 
 /// What is seen of a line or a field, and what is said of the rest.
 fn cut(text: &[u8]) -> (String, String) {
-    let seen = text.iter().take(SHOWN).map(|&byte| visible(byte)).collect();
-    let rest = match text.len() {
-        ..=SHOWN => String::new(),
-        length if length > LONGEST_SCHEDULE => format!(" ... (more than {} bytes)", grouped(LONGEST_SCHEDULE)),
-        length => format!(" ... ({} bytes)", grouped(length)),
-    };
-    (seen, rest)
+    let all = |bytes: &[u8]| bytes.iter().map(|&byte| visible(byte)).collect::<String>();
+    let first = |bytes: &[u8]| all(&bytes[..SHOWN - LAST]);
+    match text.len() {
+        ..=SHOWN => (all(text), String::new()),
+        length if length > LONGEST_SCHEDULE => {
+            (format!("{} ...", first(text)), format!(" (more than {} bytes)", grouped(LONGEST_SCHEDULE)))
+        }
+        length => (format!("{} ... {}", first(text), all(&text[length - LAST..])), format!(" ({} bytes)", grouped(length))),
+    }
 }
 
 /// `65,536`

@@ -1,10 +1,11 @@
 //! The figures of the checks in the trace's words, from what the model's base holds behind an accepted message.
 
 use crate::base::{Base, State};
+use crate::limits::MOST_BASES;
 use crate::message::Message;
 
 /// Suspect pairs that the trace names.
-const NAMED: usize = 6;
+const NAMED: usize = MOST_BASES / 2;
 
 /// The lines about the check at base `at`.
 pub fn told(at: usize, base: &Base, message: &Message) -> Vec<String> {
