@@ -61,7 +61,8 @@ fn agreement_roots() -> Vec<Place> {
 }
 
 impl World {
-    /// What schedule/specs/Theorem*.antt define, and the definitions in the contract of `replay::replay`.
+    /// What schedule/specs/Theorem*.antt define, the statement about what each line does, and the definitions in the contract of
+    /// `replay::replay`.
     fn replay_roots(&self) -> Result<Vec<Place>, String> {
         let theorems = self
             .modules
@@ -70,6 +71,7 @@ impl World {
         let mut roots: Vec<Place> = theorems
             .flat_map(|module| module.items.iter().filter(|item| item.defines).map(|item| place(&module.path, &item.name)))
             .collect();
+        roots.push(place("schedule/specs/Meaning/Effects.antt", "Effects"));
         let code = text_of("crates/replay/src/lib.rt")?;
         let imports: Vec<Import> = code.lines().filter_map(|line| import_of(line.strip_prefix("ghost ")?.trim_end_matches(';'))).collect();
         let contract =

@@ -11,7 +11,6 @@ use Rattle.faulty_links.specs.Faulty.{noFaulty, markedFaulty}
 use Rattle.net.specs.declared.Header.{Header}
 use Rattle.net.specs.declared.StoredNet.{StoredNet}
 use Rattle.net.specs.Abstraction.{emptyNode, nodeAt, withNode}
-pub mod Laws
 pub mod Filled
 pub mod Begun
 

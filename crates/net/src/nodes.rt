@@ -6,26 +6,12 @@ use node::Frame;
 use node::MARKS;
 use node::MOST_BROADCASTS;
 use node::Node;
-use protocol::Base;
-use soundness::idle::make_idle;
+use soundness::idle::idle_base;
 ghost use mathlib.Core.Path.{_≡_};
-ghost use Rattle.protocol.specs.Sound.{idleBase};
 ghost use Rattle.net.specs.Abstraction.{emptyNode, nodeAt};
 ghost use Rattle.net.specs.Header.{idleNode};
 
-// The record of an idle base. A base that has no identifier yet has zero.
-pub(crate) fn idle_base(n: u8, t: u8, own: u32) -> Base
-    ensures { λ r. ⌜ r ≡ idleBase n t own ⌝ }
-{
-    let made = make_idle(0, 0, 0);
-    let mut base = made.base;
-    base.n = n;
-    base.t = t;
-    base.own = own;
-    base
-}
-
-// A base with no identifier yet, idle, with no broadcast and no carry.
+// A base with no identifier yet, which is zero, idle, with no broadcast and no carry.
 pub(crate) fn empty_node(n: u8, t: u8) -> Node
     ensures { λ r. ⌜ r ≡ emptyNode n t ⌝ }
 {

@@ -40,7 +40,7 @@ pub mod Outer
 pub mod Theorem
 pub mod Besides
 pub mod Premise
-pub mod Examples
+pub mod Longer
 
 -- ---- what is given
 -- b is one of the bases 1 to n

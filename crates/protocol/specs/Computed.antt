@@ -1,5 +1,5 @@
 -- The definitions that are computed where a case is worked out to its end: the rows of the starred table, and the histories of
--- Agreement/Examples. Whoever unfolds `computed` unfolds all of them.
+-- the crate `histories`. Whoever unfolds `computed` unfolds all of them.
 use Rattle.limits.specs.Refusals.{netRefusal, sizeRefusal, ownRefusal}
 use Rattle.lists.specs.Choice.{choose, and, or, first}
 use Rattle.lists.specs.Lists.{nonzero, ascending, member, distinct, zeros, sameList, insert, sort, sumOver, padTo}

@@ -39,19 +39,16 @@ use Rattle.schedule.specs.Walk.{
   linesWalk,
   walk,
 }
+use Rattle.schedule.specs.Walk.Laws.{Unrefused}
 use Rattle.schedule.specs.Meaning.Continues.{proper-start, proper-carry, proper-forge}
 
 -- ---- what is asked
--- a fact that is owed only where no line is turned down
-abbrev pub Owed : {Q : Type 0} → Walkable Q → (Q → Type 0) → Q → Type 0
-Owed L H q = L .refusal q ≡ 0 → H q
-
 -- the second walk by itself: H holds from the identifiers on, E of each line of events
 pub record Invariants {Q : Type 0} (L : Walkable Q) (H E : Q → Type 0) : Type 0 where
   pub few : (s : List ℕ) → L .n (netStep L s (L .begin)) ≤ mostBases
-  pub ids : (s : List ℕ) → Owed L H (idSteps L s (L .n (netStep L s (L .begin))) (netStep L s (L .begin)))
-  pub faulty : (s : List ℕ) (q : Q) → Owed L H q → Owed L H (faultyStep L s q)
-  pub lines : (s : List ℕ) (k : ℕ) → Owed L E (repeat k (nextLine L s) (headerWalk L s))
+  pub ids : (s : List ℕ) → Unrefused L H (idSteps L s (L .n (netStep L s (L .begin))) (netStep L s (L .begin)))
+  pub faulty : (s : List ℕ) (q : Q) → Unrefused L H q → Unrefused L H (faultyStep L s q)
+  pub lines : (s : List ℕ) (k : ℕ) → Unrefused L E (repeat k (nextLine L s) (headerWalk L s))
 
 -- each step keeps the relation
 pub record Simulates {P Q : Type 0} (K : Walkable P) (L : Walkable Q) (R : P → Q → Type 0) (H E : Q → Type 0) : Type 0 where
@@ -138,7 +135,7 @@ module _ {P Q : Type 0} (K : Walkable P) (L : Walkable Q) (R : P → Q → Type 
   faulty-read p q h F Neither = F
   faulty-read p q h F (Both a b next) = mark-both a b next p q h F
 
-  faulty-both : (s : List ℕ) (p : P) (q : Q) → Owed L H q → R p q → R (faultyStep K s p) (faultyStep L s q)
+  faulty-both : (s : List ℕ) (p : P) (q : Q) → Unrefused L H q → R p q → R (faultyStep K s p) (faultyStep L s q)
   unfolding faultyStep
   faulty-both s p q h F =
       unless-both F (λ none.
@@ -169,7 +166,7 @@ module _ {P Q : Type 0} (K : Walkable P) (L : Walkable Q) (R : P → Q → Type 
       (subst (λ (n : ℕ). R (lineStep K s (eventLine n s (K .at p)) p) (lineStep L s (eventLine (L .n q) s (K .at p)) q)) (sym (S .n F))
       (line-both s (K .at p) (eventLine (L .n q) s (K .at p)) p q (event-told (L .n q) s (K .at p)) h F))
 
-  next-both : (s : List ℕ) (p : P) (q : Q) → Owed L E q → R p q → R (nextLine K s p) (nextLine L s q)
+  next-both : (s : List ℕ) (p : P) (q : Q) → Unrefused L E q → R p q → R (nextLine K s p) (nextLine L s q)
   unfolding nextLine
   next-both s p q h F =
       unless-both F (λ none.
@@ -179,8 +176,8 @@ module _ {P Q : Type 0} (K : Walkable P) (L : Walkable Q) (R : P → Q → Type 
 
   -- ---- the whole schedule
   module _ (I : Invariants L H E) (s : List ℕ) where
-    faulties-both : (k : ℕ) (p : P) (q : Q) → Owed L H q → R p q
-        → R (repeat k (faultyStep K s) p) (repeat k (faultyStep L s) q) × Owed L H (repeat k (faultyStep L s) q)
+    faulties-both : (k : ℕ) (p : P) (q : Q) → Unrefused L H q → R p q
+        → R (repeat k (faultyStep K s) p) (repeat k (faultyStep L s) q) × Unrefused L H (repeat k (faultyStep L s) q)
     unfolding repeat
     faulties-both zero p q h F = (F, h)
     faulties-both (suc k) p q h F =
@@ -191,7 +188,7 @@ module _ {P Q : Type 0} (K : Walkable P) (L : Walkable Q) (R : P → Q → Type 
     ids-all p q h F =
         subst (λ (k : ℕ). R (idSteps K s (K .n p) p) (idSteps L s k q)) (S .n F) (ids-both s (K .n p) (omega (arith, S .n F)) p q F)
 
-    faulties-all : (p : P) (q : Q) → Owed L H q → R p q
+    faulties-all : (p : P) (q : Q) → Unrefused L H q → R p q
         → R (repeat (suc (K .t p)) (faultyStep K s) p) (repeat (suc (L .t q)) (faultyStep L s) q)
     faulties-all p q h F =
         subst (λ (k : ℕ). R (repeat (suc (K .t p)) (faultyStep K s) p) (repeat (suc k) (faultyStep L s) q)) (S .t F)

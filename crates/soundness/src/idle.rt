@@ -17,7 +17,8 @@ pub struct Made {
     pub base: Base,
 }
 
-fn idle_base(n: u8, t: u8, own: u32) -> Base
+// The record of a base that has not started: of these, whatever they are, and nothing from any link.
+pub fn idle_base(n: u8, t: u8, own: u32) -> Base
     ensures { λ r. ⌜ r ≡ idleBase n t own ⌝ }
 {
     let link = Link {

@@ -41,7 +41,8 @@ use Rattle.schedule.specs.Meaning.{
   wholeSchedule,
   meaning,
 }
-use Rattle.schedule.specs.Meaning.Laws.{Unrefused, judged-ind}
+use Rattle.schedule.specs.Walk.Laws.{Unrefused}
+use Rattle.schedule.specs.Meaning.Laws.{judged-ind}
 use Rattle.schedule.specs.Meaning.Begins.{Whole, faulty-passed, faulty-begins, header-begins, ids-whole, begins-setting, begins-fresh}
 use Rattle.schedule.specs.Meaning.Continues.{Continues, lines-continue, lines-unrefused, whole-continues, header-unrefused, meaning-whole}
 use Rattle.schedule.specs.Simulation.{Invariants, Simulates, both, header-simulated, walk-simulated}
@@ -85,7 +86,7 @@ in-history begin st B T =
     (subst (λ (t : ℕ). History (begin .n) t (st .faulty) (st .net)) (sym (T .t))
     (subst (λ (l : List Pair). History (begin .n) (begin .t) l (st .net)) (sym (T .faulty)) h))
 
-lines-history : (s : List ℕ) (k : ℕ) → Unrefused InHistory (repeat k (nextLine scheduled s) (header s))
+lines-history : (s : List ℕ) (k : ℕ) → Unrefused scheduled InHistory (repeat k (nextLine scheduled s) (header s))
 lines-history s k e = in-history (header s) _ (header-begins s (lines-unrefused s (header s) k e)) (lines-continue s (header s) k e)
 
 invariants : Invariants scheduled Whole InHistory
@@ -195,7 +196,7 @@ whole-follows : (s : List ℕ) → SameProgress (walk replaying s) (meaning s)
 whole-follows s = walk-simulated replaying scheduled SameProgress Whole InHistory simulates invariants s
 
 -- ---- the bases of the net
-few-bases : (s : List ℕ) → Unrefused (λ st. st .n ≤ mostBases) (meaning s)
+few-bases : (s : List ℕ) → Unrefused scheduled (λ st. st .n ≤ mostBases) (meaning s)
 few-bases s e =
     let m = meaning-whole s e in
     let w : wholeSchedule s .refusal ≡ 0 = ap (λ (st : Progress). st .refusal) (sym m) ∙ e in
@@ -217,7 +218,8 @@ whole-is : (p : StoredNet) (st : Progress) → st .n ≤ mostBases
 whole-is p st h F =
     ap₂ (λ (x : List ℕ) (k : ℕ). x ++ waitingLine k) (ap₂ baseLines (F .net .record-n) (F .net .abstracts)) (represents-waiting h (F .net))
 
-report-follows : (p : StoredNet) (st : Progress) → Unrefused (λ x. x .n ≤ mostBases) st → SameProgress p st → reportNet p ≡ reportOf st
+report-follows : (p : StoredNet) (st : Progress) → Unrefused scheduled (λ x. x .n ≤ mostBases) st → SameProgress p st
+    → reportNet p ≡ reportOf st
 unfolding reportNet reportOf
 report-follows p st few F =
     ap (λ (r : ℕ). choose (eqb r 0) (whole p) (refusedLine (p .refusal) (p .line))) (F .refusal)

@@ -63,16 +63,16 @@ module _ {M : Type 1} (𝓤 : URA M) (H : Heap 𝓤) (A : Atoms 𝓤) (S : Ended
     abbrev Result : Type 0
     Result = Res (S .signature) (y .0 .0)
 
-    abbrev Ends : Type 0
-    Ends = Lasts S (y .0 .0) (y .0 .3)
+    abbrev ExitValues : Type 0
+    ExitValues = Lasts S (y .0 .0) (y .0 .3)
 
     abbrev answer : Result → Val → Fml
     answer r v = typeAt (S .signature .result) (y .0 .0) .own r (v ∷ [])
 
-    abbrev ends : Ends → Fml
+    abbrev ends : ExitValues → Fml
     ends ws = lasts S (y .0 .0) (y .0 .3) ws
 
-    abbrev ensures : Result → Ends → SProp 𝓤
+    abbrev ensures : Result → ExitValues → SProp 𝓤
     ensures r ws = c (y .0 .0) (y .0 .3) .ensures (y .1) r (atExit S (y .0 .0) (y .0 .3) ws)
 
     abbrev requires : SProp 𝓤
@@ -88,9 +88,9 @@ module _ {M : Type 1} {𝓤 : URA M} {H : Heap 𝓤} {A : Atoms 𝓤} {K : Type 
       (vss : Vals (S .signature) κs) (g : c κs a .ghost) → let y : triple 𝓤 H A S c .Ghost = ((κs, qs, bounds, a, vss), g) in
       ent 𝓤 (emp 𝓤) (requires 𝓤 H A S c y)
       → Opds K W (raw (triple 𝓤 H A S c .pre y) ∷ Γ) E xs (passed 𝓤 H A (S .signature) (y .0))
-      → (φ : Result 𝓤 H A S c y → Ends 𝓤 H A S c y → Type 0)
-      → ((r : Result 𝓤 H A S c y) (ws : Ends 𝓤 H A S c y) → ent 𝓤 (ensures 𝓤 H A S c y r ws) (fact 𝓤 (φ r ws)))
-      → ((v : Val) (r : Result 𝓤 H A S c y) (ws : Ends 𝓤 H A S c y) → φ r ws
+      → (φ : Result 𝓤 H A S c y → ExitValues 𝓤 H A S c y → Type 0)
+      → ((r : Result 𝓤 H A S c y) (ws : ExitValues 𝓤 H A S c y) → ent 𝓤 (ensures 𝓤 H A S c y r ws) (fact 𝓤 (φ r ws)))
+      → ((v : Val) (r : Result 𝓤 H A S c y) (ws : ExitValues 𝓤 H A S c y) → φ r ws
       → Seq K W (‵ (answer 𝓤 H A S c y r v) ∷ ‵ (ends 𝓤 H A S c y ws) ∷ tokens 𝓤 H A S c y ∷ Γ) (lands C Λ E d v rest q))
       → Seq K W (tokens 𝓤 H A S c y ∷ ‵ (params 𝓤 H A S c y) ∷ Γ) (runs C Λ E (seq (call f xs d) rest) q)
   calls-by t fm S c known κs qs bounds a vss g req os φ says k =
@@ -101,14 +101,14 @@ module _ {M : Type 1} {𝓤 : URA M} {H : Heap 𝓤} {A : Atoms 𝓤} {K : Type 
       (via 𝓤 P (entry 𝓤 H A S c y) (via 𝓤 (sep 𝓤 (emp 𝓤) P) (emp∗ 𝓤 P) (via 𝓤 (sep 𝓤 R P) (monoL 𝓤 P req) (comm∗ 𝓤 R P)))) $
       calls-at t fm (triple 𝓤 H A S c) known y os (λ v.
       use1 W (later (some (λ (r : Result 𝓤 H A S c y). (raw (alive 𝓤 H A (S .signature) κs qs) ⊛ ‵ (answer 𝓤 H A S c y r v))
-      ⊛ some (λ (ws : Ends 𝓤 H A S c y). ‵ (ends 𝓤 H A S c y ws) ⊛ raw (ensures 𝓤 H A S c y r ws))))) (id⊢ 𝓤 _) $
+      ⊛ some (λ (ws : ExitValues 𝓤 H A S c y). ‵ (ends 𝓤 H A S c y ws) ⊛ raw (ensures 𝓤 H A S c y r ws))))) (id⊢ 𝓤 _) $
       await t tt $ pick t (λ r. split t $ move t (1 ∷ []) $ pick t (λ ws. split t $ move t (1 ∷ []) $
       use1 W (raw (fact 𝓤 (φ r ws))) (says r ws) $ heard t (φ r ws) (λ e. move t (1 ∷ []) $ split t $
       use1 W (tokens 𝓤 H A S c y) (tokens-in 𝓤 H A (S .signature .lifetimes) κs qs) $ move t (1 ∷ 2 ∷ []) $ k v r ws e))))
 
   -- the exit, at the parameters' machine values vss: the answer r at the machine value v, and the last values
   pub ends-by : K → (S : Ended) (c : Clauses 𝓤 S) (x : triple 𝓤 H A S c .Ghost) (vss : Vals (S .signature) (x .0 .0)) (v : Val)
-      (r : Result 𝓤 H A S c x) (ws : Ends 𝓤 H A S c x)
+      (r : Result 𝓤 H A S c x) (ws : ExitValues 𝓤 H A S c x)
       → let y : triple 𝓤 H A S c .Ghost = ((x .0 .0, x .0 .1, x .0 .2, x .0 .3, vss), x .1) in
       ent 𝓤 (emp 𝓤) (ensures 𝓤 H A S c y r ws)
       → Seq K W (tokens 𝓤 H A S c y ∷ ‵ (answer 𝓤 H A S c y r v) ∷ ‵ (ends 𝓤 H A S c y ws) ∷ []) (prop (triple 𝓤 H A S c .post y v))
@@ -121,7 +121,8 @@ module _ {M : Type 1} {𝓤 : URA M} {H : Heap 𝓤} {A : Atoms 𝓤} {K : Type 
             sep 𝓤 (Back 𝓤 H A (S .signature) (y .0) v r′) (ensured 𝓤 H A S c (y .0 .0) (y .0 .3) (y .1) r′)) r $
             use1 W (raw (alive 𝓤 H A (S .signature) (y .0 .0) (y .0 .1)))
             (tokens-out 𝓤 H A (S .signature .lifetimes) (y .0 .0) (y .0 .1)) $ join ! $ frame ! $
-            show ! (λ (us : Ends 𝓤 H A S c y). sep 𝓤 (sem 𝓤 H A (ends 𝓤 H A S c y us)) (ensures 𝓤 H A S c y r us)) ws $ frame ! $ by ! says)
+            show ! (λ (us : ExitValues 𝓤 H A S c y). sep 𝓤 (sem 𝓤 H A (ends 𝓤 H A S c y us)) (ensures 𝓤 H A S c y r us)) ws $
+            frame ! $ by ! says)
             (W .laws .⇛-intro _);
       }
 

@@ -66,6 +66,13 @@ unfolding or
 or-second true e = refl
 or-second false e = e
 
+pub or-swap : (a b : Bool) → or a b ≡ or b a
+unfolding or
+or-swap true true = refl
+or-swap true false = refl
+or-swap false true = refl
+or-swap false false = refl
+
 pub or-true : (a b : Bool) → or a b ≡ true → (a ≡ true) ⊎ (b ≡ true)
 unfolding or
 or-true true b e = inl refl

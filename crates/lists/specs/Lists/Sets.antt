@@ -9,7 +9,7 @@ use borrow.Author.Tests.{eqb-true, eqb-false, eq-eqb, not-true}
 use lib.Dec.{eqb}
 use lib.ListN.{length}
 use Rattle.lists.specs.Choice.{or}
-use Rattle.lists.specs.Choice.Laws.{clash, and-true, and-both, or-true, or-false, or-neither}
+use Rattle.lists.specs.Choice.Laws.{clash, and-true, and-both, or-second, or-true, or-false, or-neither}
 use Rattle.lists.specs.Lists.{nonzero, member, distinct, Below}
 
 eqb-sym : (x y : ℕ) → eqb x y ≡ false → eqb y x ≡ false
@@ -25,12 +25,8 @@ unfolding member or
 member-head x l = rw (eq-eqb x x refl)
 
 pub member-tail : (x y : ℕ) (l : List ℕ) → member x l ≡ true → member x (y ∷ l) ≡ true
-unfolding member or
-member-tail x y l e = rw e (go (eqb y x))
-  where
-    go : (t : Bool) → or t true ≡ true
-    go true = refl
-    go false = refl
+unfolding member
+member-tail x y l e = or-second (eqb y x) e
 
 pub member-cases : (x y : ℕ) (l : List ℕ) → member x (y ∷ l) ≡ true → (y ≡ x) ⊎ (member x l ≡ true)
 unfolding member
@@ -45,17 +41,17 @@ pub inserted-length : {x : ℕ} {l k : List ℕ} → Inserted x l k → length k
 inserted-length here = refl
 inserted-length (there I) = ap suc (inserted-length I)
 
-or-swap : (a b c : Bool) → or a (or b c) ≡ or b (or a c)
+or-exchange : (a b c : Bool) → or a (or b c) ≡ or b (or a c)
 unfolding or
-or-swap true true c = refl
-or-swap true false c = refl
-or-swap false true c = refl
-or-swap false false c = refl
+or-exchange true true c = refl
+or-exchange true false c = refl
+or-exchange false true c = refl
+or-exchange false false c = refl
 
 pub inserted-member : {x : ℕ} {l k : List ℕ} (z : ℕ) → Inserted x l k → member z k ≡ member z (x ∷ l)
 unfolding member
 inserted-member z here = refl
-inserted-member {x} z (there {y = y} {l = l} I) = ap (or (eqb y z)) (inserted-member z I) ∙ or-swap (eqb y z) (eqb x z) (member z l)
+inserted-member {x} z (there {y = y} {l = l} I) = ap (or (eqb y z)) (inserted-member z I) ∙ or-exchange (eqb y z) (eqb x z) (member z l)
 
 pub inserted-distinct : {x : ℕ} {l k : List ℕ} → Inserted x l k → distinct l ≡ true → member x l ≡ false → distinct k ≡ true
 unfolding distinct member

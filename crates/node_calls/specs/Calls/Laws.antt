@@ -28,8 +28,9 @@ use Rattle.node.specs.declared.Frame.{Frame}
 use Rattle.node.specs.declared.Node.{Node}
 use Rattle.node_calls.specs.declared.Told.{Told}
 use Rattle.node.specs.Node.{mostBroadcasts, storedFrame, joined, joinedAll, withBase, nodeAfter}
+use Rattle.protocol.specs.Steps.Sizes.{length-encode}
 use Rattle.node_calls.specs.Calls.{told, keptOf, keptFrom, AllFit, Fitting, settledOf}
-use Rattle.node_calls.specs.Calls.Tidy.{AllShort, encoded-length, Tidy}
+use Rattle.node_calls.specs.Calls.Tidy.{AllShort, Tidy}
 
 pub copied : (out : List ℕ) (from len i : ℕ) → i < len → len ≤ longestFrame → from + len ≤ length out
     → set (padTo longestFrame (take i (drop from out))) i (getD out (from + i) 0) ≡ padTo longestFrame (take (i + 1) (drop from out))
@@ -61,7 +62,7 @@ kept-more v bytes e h f = chosen-no _ (ne-eqb (length bytes) 0 e) (chosen-yes _ 
 
 -- ---- three frames in an output
 encoded-some : (m : Message) → length (encode m) ≡ 0 → ⊥
-encoded-some m e = omega (arith, encoded-length m)
+encoded-some m e = omega (arith, length-encode m)
 
 kept-encoded : (v : Node) (m : Message) → keptOf v (encode m) ≡ joined v (encode m)
 unfolding keptOf

@@ -6,11 +6,10 @@ use mathlib.Core.Path.{_≡_, refl}
 use mathlib.Core.List.{List, [], _∷_, _++_}
 use native.Mathlib.Omega.{arith}
 use lib.ListN.{length}
-use Rattle.limits.specs.Limits.{mostBases, frameBytes, longestFrame, outputRoom}
+use Rattle.limits.specs.Limits.{mostBases, longestFrame, outputRoom}
 use Rattle.lists.specs.Lists.{Below}
-use Rattle.frame.specs.Message.{Message, announce, verify, correctFinal, verifyFinal, kindOf, idsOf}
+use Rattle.frame.specs.Message.{Message, announce, verify, correctFinal, verifyFinal, idsOf}
 use Rattle.frame.specs.Encoding.{encode}
-use Rattle.frame.specs.Encoding.Laws.{length-frame}
 use Rattle.protocol.specs.declared.Base.{Base}
 use Rattle.protocol.specs.Record.Memory.{Sized}
 use Rattle.protocol.specs.Sound.Laws.{record-passed}
@@ -50,7 +49,7 @@ use Rattle.protocol.specs.Steps.Cases.{
 use Rattle.protocol.specs.Steps.Laws.{takes-rest}
 use Rattle.protocol.specs.Steps.Output.{start-step-brief, arrival-step-brief}
 use Rattle.protocol.specs.Steps.Refusals.{Heard, start-cases}
-use Rattle.protocol.specs.Steps.Sizes.{Brief, valid-fits, decides-fits}
+use Rattle.protocol.specs.Steps.Sizes.{length-encode, Brief, valid-fits, decides-fits}
 use Rattle.engine.specs.Hearing.{messageArrival}
 use Rattle.engine.specs.Hearing.Valid.{message-heard, message-cases}
 
@@ -59,12 +58,8 @@ abbrev pub AllShort : List Message → Type 0
 AllShort [] = Unit {0}
 AllShort (m ∷ says) = (length (encode m) ≤ longestFrame) × AllShort says
 
-pub encoded-length : (m : Message) → length (encode m) ≡ frameBytes (length (idsOf m))
-unfolding encode
-encoded-length m = length-frame (kindOf m) (idsOf m)
-
 short : (m : Message) → length (idsOf m) ≤ mostBases → length (encode m) ≤ longestFrame
-short m h = omega (arith, encoded-length m)
+short m h = omega (arith, length-encode m)
 
 short-append : (a b : List Message) → AllShort a → AllShort b → AllShort (a ++ b)
 short-append [] b p q = q

@@ -13,7 +13,7 @@ use Rattle.protocol.specs.Agreement.Cases.{impossible}
 use Rattle.protocol.specs.Agreement.Views.{View, Said, ViewHolds, corrects, holdsOf, tallyOf, lacks, suspect, Prime, Secondary, Lists}
 use Rattle.protocol.specs.Agreement.Storing.{Vector, ListOf, vector-or-not, list-or-not, Stored}
 use Rattle.protocol.specs.Agreement.Storing.{stored-names, stored-prime, stored-corrects, stored-secondary}
-use Rattle.protocol.specs.Agreement.Calls.{arrival, Grows, Settled, Taken, Backed, Stopping, as-prime, as-secondary, ViewCall}
+use Rattle.protocol.specs.Agreement.Calls.{messageInput, Grows, Settled, Taken, Backed, Stopping, as-prime, as-secondary, ViewCall}
 
 -- ---- what b broadcasts before the check, and whether a Verify-Final is sent after it
 pub data Saying (n : ℕ) (m : Message) (b a : View) : ℕ → List Message → Type 0 where
@@ -176,7 +176,7 @@ module _ (n t me own x : ℕ) (x-in : x < n) (m : Message) (b a : View) (S : Sto
     c-holds y (correctFinal v) h = h
     c-holds y (verifyFinal v) h = h
 
-    c-taken : (y : ℕ) (w : Message) → arrival x m ≡ arrival y w → Taken n b c y w
+    c-taken : (y : ℕ) (w : Message) → messageInput x m ≡ messageInput y w → Taken n b c y w
     c-taken y w e = let p : x ≡ y = cc in let q : m ≡ w = cc in subst (λ z. Taken n b c z w) p (go w (subst (ViewHolds a x) q (S .here)))
       where
         go : (w : Message) → ViewHolds a x w → Taken n b c x w
@@ -214,7 +214,7 @@ module _ (n t me own x : ℕ) (x-in : x < n) (m : Message) (b a : View) (S : Sto
       | inr k ↦ (let q = ending-says E (verifyFinal v) k .0 in impossible (cc))
     ]
 
-    pub accepted-call : ViewCall n t me own (arrival x m) b c (said ++ out)
+    pub accepted-call : ViewCall n t me own (messageInput x m) b c (said ++ out)
     accepted-call = record {
       grows = c-grows;
       runs = unfold closing in ending-states E .0;
@@ -234,7 +234,7 @@ module _ (n t me own x : ℕ) (x-in : x < n) (m : Message) (b a : View) (S : Sto
       stop-said = λ s. inr (final-said s);
     }
       where
-        same : (y : ℕ) (w : Message) → y ≡ x → w ≡ m → arrival x m ≡ arrival y w
+        same : (y : ℕ) (w : Message) → y ≡ x → w ≡ m → messageInput x m ≡ messageInput y w
         same y w e f = rw (e, f)
 
         ended : (w : Message) → (w ≡ correctFinal final) × (2 ≤ state) → Backed n own c w

@@ -10,7 +10,6 @@ use native.Mathlib.Omega.{arith}
 use lib.ListN.{length}
 use Rattle.lists.specs.Choice.{first}
 use Rattle.lists.specs.Choice.Laws.{first-none, first-last}
-use Rattle.lists.specs.Lists.{sort}
 use Rattle.frame.specs.Message.{Valid}
 use Rattle.protocol.specs.Sound.{recordRefusal}
 use Rattle.protocol.specs.Steps.{linkRefusal, outputRefusal, arrivalRefusal, arrival}
@@ -18,47 +17,30 @@ use Rattle.protocol.specs.Steps.Refusals.{link-near}
 use Rattle.protocol.specs.Steps.Answers.{start-number, arrival-number}
 use Rattle.protocol.specs.Numbering.{linkTo}
 use Rattle.protocol.specs.Numbering.Laws.{link-range}
-use Rattle.protocol.specs.Net.{Net, Pair, Event, starts, carry, forge, broadcast, call, eventRefusal, callRefusal, run, hasStopped}
-use Rattle.protocol.specs.Agreement.{BaseOf, Setting, Fresh, AllProper, trueIdentifiers, ReadBack, Orderly, Order}
+use Rattle.protocol.specs.Net.{Net, Pair, starts, carry, forge, broadcast, call, eventRefusal, callRefusal, hasStopped}
+use Rattle.protocol.specs.Agreement.{BaseOf, ReadBack, Orderly, Order}
 use Rattle.protocol.specs.Agreement.Invariant.{broadcastAt}
 use Rattle.protocol.specs.Agreement.Inner.{Group, Member}
-use Rattle.protocol.specs.Agreement.Inner.Theorem.{GroupInvariant}
 use Rattle.protocol.specs.Agreement.Inner.Life.{log-most}
 use Rattle.protocol.specs.Agreement.Outer.Faulty.{table}
-use Rattle.protocol.specs.Agreement.Outer.Truth.{trueOf}
 use Rattle.protocol.specs.Agreement.Outer.Frames.{length-encoded, said-at, reads-back, encoded-accepted}
-use Rattle.protocol.specs.Agreement.Outer.Follows.{Matches, Follows}
+use Rattle.protocol.specs.Agreement.Outer.Follows.{Matches}
 use Rattle.protocol.specs.Agreement.Outer.Refusals.{carry-names-broadcast, carry-has-number, encoded-at}
 use Rattle.frame.specs.Encoding.{encode}
 use Rattle.frame.specs.Reading.{burstRefusal, messageOf}
-use Rattle.protocol.specs.Agreement.Outer.Beginning.{each-base, here, premises, follows-run, group-invariant-run}
+use Rattle.protocol.specs.Agreement.Outer.Beginning.{each-base, ReachedNet, net-reached}
 use Rattle.protocol.specs.Agreement.Outer.Stopping.{state-stopped}
-use Rattle.protocol.specs.Agreement.Theorem.{agreement}
+use Rattle.protocol.specs.Agreement.Theorem.{state-end}
 
-module _ (n t : ℕ) (faulty : List Pair) (W : Net) (S : Setting n t faulty) (F : Fresh n t W) (es : List Event) (p : AllProper n es) where
-  abbrev end : Net
-  end = run faulty W es
-
-  abbrev ids : ℕ → ℕ
-  ids = trueOf W
-
-  abbrev right : List ℕ
-  right = sort (trueIdentifiers n W)
-
-  abbrev follows : Follows n t faulty ids end
-  follows = follows-run n t faulty W S F es p
-
+module _ {n t : ℕ} {faulty : List Pair} {id : ℕ → ℕ} {truth : List ℕ} {end : Net} (R : ReachedNet n t faulty id truth end) where
   abbrev N : Group
-  N = follows .group
+  N = R .follows .group
 
   matches : Matches n end N
-  matches = follows .matches
+  matches = R .follows .matches
 
-  invariant : GroupInvariant n t (table faulty) ids right N
-  invariant = group-invariant-run n t faulty W S F es p
-
-  members : (x : ℕ) → x < n → Member n t (ids x) (end .base (suc x))
-  members x l = subst (Member n t (ids x)) (sym (matches .base x l)) (invariant .member x l)
+  members : (x : ℕ) → x < n → Member n t (id x) (end .base (suc x))
+  members x l = subst (Member n t (id x)) (sym (matches .base x l)) (R .invariant .member x l)
 
   -- ---- "A base broadcasts at most n + 3 in its life."
   log-few : (x : ℕ) → x < n → length (end .log (suc x)) ≤ n + 3
@@ -66,13 +48,13 @@ module _ (n t : ℕ) (faulty : List Pair) (W : Net) (S : Setting n t faulty) (F 
     arith,
     ap length (matches .log x l),
     length-encoded (N .log x),
-    log-most n t (table faulty) ids right (premises n t faulty W S F) (follows .reached) x l,
+    log-most n t (table faulty) id truth (R .premises) (R .follows .reached) x l,
   )
 
   -- ---- "It has stopped once it has broadcast a Correct-Final; its state is then 2 or 3."
   stopped-exactly : (x : ℕ) → x < n → (hasStopped end (suc x) ≡ true) ↔ ((end .base (suc x) .state ≡ 2) ⊎ (end .base (suc x) .state ≡ 3))
   stopped-exactly x l =
-      (agreement n t faulty W es S F p .state (suc x) (here x l), λ s. state-stopped (S .size) matches invariant x l (high s))
+      (state-end R x l, λ s. state-stopped (R .size) matches (R .invariant) x l (high s))
     where
       high : (end .base (suc x) .state ≡ 2) ⊎ (end .base (suc x) .state ≡ 3) → 2 ≤ end .base (suc x) .state
       high (inl e) = omega arith
@@ -95,15 +77,15 @@ module _ (n t : ℕ) (faulty : List Pair) (W : Net) (S : Setting n t faulty) (F 
   frame-read x b k l B h = subst (λ m. ReadBack m (broadcast end (suc x) (suc k))) (sym (n-kept b B)) (record {
     message = broadcastAt (N .log x) k;
     written = is;
-    accepted = ap (burstRefusal n) is ∙ encoded-accepted n (S .size) (broadcastAt (N .log x) k) sent;
-    reads = ap messageOf is ∙ reads-back n (S .size) (broadcastAt (N .log x) k) sent;
+    accepted = ap (burstRefusal n) is ∙ encoded-accepted n (R .size) (broadcastAt (N .log x) k) sent;
+    reads = ap messageOf is ∙ reads-back n (R .size) (broadcastAt (N .log x) k) sent;
   })
     where
       below : k < length (N .log x)
       below = omega (arith, ap length (matches .log x l), length-encoded (N .log x))
 
       sent : Valid n (broadcastAt (N .log x) k)
-      sent = invariant .valid x (broadcastAt (N .log x) k) l (said-at (N .log x) k below)
+      sent = R .invariant .valid x (broadcastAt (N .log x) k) l (said-at (N .log x) k below)
 
       is : broadcast end (suc x) (suc k) ≡ encode (broadcastAt (N .log x) k)
       is = encoded-at end (suc x) k (N .log x) (matches .log x l) below
@@ -156,4 +138,4 @@ module _ (n t : ℕ) (faulty : List Pair) (W : Net) (S : Setting n t faulty) (F 
   }
 
 pub orderly : Order
-orderly n t faulty W es S F p = in-order n t faulty W S F es p
+orderly n t faulty W es S F p = in-order (net-reached n t faulty W S F es p)

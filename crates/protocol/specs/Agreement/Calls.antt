@@ -11,9 +11,9 @@ use Rattle.frame.specs.Message.{Message, announce, verify, correctFinal, verify
 use Rattle.protocol.specs.Agreement.Views.{View, Said, ViewHolds, Certified, corrects, Prime, Secondary, Lists}
 
 pub data ViewInput : Type 0 where
-  start : ViewInput
+  startInput : ViewInput
   -- a message on the link to base x
-  arrival : ℕ → Message → ViewInput
+  messageInput : ℕ → Message → ViewInput
 
 -- ---- one base at all times
 -- the part of a sound record that the argument uses, of the base me whose identifier is own
@@ -74,8 +74,8 @@ pub record ViewCall (n t me own : ℕ) (i : ViewInput) (b c : View) (says : List
   pub runs : 1 ≤ c .state
   pub settled : Settled n t me c
   -- what is held was held before, or has just arrived; what has arrived is taken
-  pub heard : (x : ℕ) (m : Message) → x ≢ me → ViewHolds c x m → ViewHolds b x m ⊎ (i ≡ arrival x m)
-  pub taken : (x : ℕ) (m : Message) → i ≡ arrival x m → c .state ≤ 1 → Taken n b c x m
+  pub heard : (x : ℕ) (m : Message) → x ≢ me → ViewHolds c x m → ViewHolds b x m ⊎ (i ≡ messageInput x m)
+  pub taken : (x : ℕ) (m : Message) → i ≡ messageInput x m → c .state ≤ 1 → Taken n b c x m
   pub stopping : 2 ≤ c .state → Stopping n t me b c
   -- what is broadcast is backed, and a Verify-Final is broadcast once
   pub backed : (m : Message) → Said m says → Backed n own c m

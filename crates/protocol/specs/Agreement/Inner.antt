@@ -58,10 +58,10 @@ HandedOver N x y m handed = (a c k : ℕ) → handed a c k ≡ true
 pub data ReachedGroup (n t : ℕ) (faulty : ℕ → ℕ → ℕ) (id : ℕ → ℕ) : Group → Type 0 where
   fresh : {N : Group} → FreshGroup n t id N → ReachedGroup n t faulty id N
   -- a start at y
-  starts : {N : Group} → ReachedGroup n t faulty id N → (y : ℕ) → y < n
+  groupStarts : {N : Group} → ReachedGroup n t faulty id N → (y : ℕ) → y < n
       → ReachedGroup n t faulty id (groupAfter N y (startStep (N .base y)) (N .handed))
   -- a valid message arrives at y on its link to x: on a good link it is in x's log
-  arrives : {N : Group} → ReachedGroup n t faulty id N → (x y : ℕ) (m : Message) (handed : ℕ → ℕ → ℕ → Bool) → x < n → y < n → x ≢ y
+  groupArrives : {N : Group} → ReachedGroup n t faulty id N → (x y : ℕ) (m : Message) (handed : ℕ → ℕ → ℕ → Bool) → x < n → y < n → x ≢ y
       → Valid n m
       → (faulty x y ≡ 0 → Said m (N .log x)) → HandedOver N x y m handed
       → ReachedGroup n t faulty id (groupAfter N y (arrivalStep (N .base y) (placeOf y x) m) handed)

@@ -9,7 +9,7 @@ use native.Mathlib.Decide.{ℕ-discrete}
 use lib.ListN.{length}
 use Rattle.frame.specs.Message.{Message}
 use Rattle.protocol.specs.Agreement.Views.{View, Said}
-use Rattle.protocol.specs.Agreement.Calls.{ViewInput, arrival, SoundView, Grows, ViewCall}
+use Rattle.protocol.specs.Agreement.Calls.{ViewInput, messageInput, SoundView, Grows, ViewCall}
 use Rattle.protocol.specs.Agreement.Growth.{grows-not}
 use Rattle.protocol.specs.Agreement.Invariant.{State, broadcastAt}
 
@@ -28,10 +28,10 @@ pub record NetStep (n t : ℕ) (faulty : ℕ → ℕ → ℕ) (id : ℕ → ℕ)
   pub base-other : (x : ℕ) → x ≢ me → M .base x ≡ N .base x
   pub log-other : (x : ℕ) → x ≢ me → M .log x ≡ N .log x
   -- what arrives on a good link is in the log of the base at its other end
-  pub source : (x : ℕ) (m : Message) → x < n → x ≢ me → faulty x me ≡ 0 → input ≡ arrival x m → Said m (N .log x)
+  pub source : (x : ℕ) (m : Message) → x < n → x ≢ me → faulty x me ≡ 0 → input ≡ messageInput x m → Said m (N .log x)
   -- what is newly handed over is what arrives
   pub newly : (x y k : ℕ) → M .handed x y k ≡ true
-      → (N .handed x y k ≡ true) ⊎ ((y ≡ me) × (k < length (N .log x)) × (input ≡ arrival x (broadcastAt (N .log x) k)))
+      → (N .handed x y k ≡ true) ⊎ ((y ≡ me) × (k < length (N .log x)) × (input ≡ messageInput x (broadcastAt (N .log x) k)))
 
 module _ (n t : ℕ) (faulty : ℕ → ℕ → ℕ) (id : ℕ → ℕ) (N M : State) (S : NetStep n t faulty id N M) where
   -- what holds of the called base as it is left, and of the others as they were, holds of each base of M

@@ -3,12 +3,15 @@
 use Prim.Native.Nat.{ℕ, suc, _-_}
 use lib.Dec.{eqb}
 use Rattle.lists.specs.Choice.{choose}
+use Rattle.frame.specs.Message.{Message}
 use Rattle.protocol.specs.declared.Link.{Link}
 use Rattle.protocol.specs.declared.Base.{Base}
 use Rattle.protocol.specs.Links.{noLink, verifiesOf, holdsCorrect, holdsVerifyFinal}
 use Rattle.protocol.specs.Record.{linkAt, finalList}
 use Rattle.protocol.specs.Numbering.{linkTo}
+use Rattle.protocol.specs.Steps.{Done}
 use Rattle.protocol.specs.Agreement.Views.{View}
+use Rattle.protocol.specs.Agreement.Calls.{messageInput, ViewCall}
 pub mod Places
 pub mod Counts
 pub mod Names
@@ -37,3 +40,7 @@ view me b = record {
   correct = λ x v. holdsCorrect (b .n) (linkFor me b x) v;
   vote = λ x v. holdsVerifyFinal (b .n) (linkFor me b x) v;
 }
+
+-- d is what becomes of a message m that arrives at the base me, whose record is b, on its link to base x
+abbrev pub ArrivalCall : ℕ → Base → ℕ → Message → Done → Type 0
+ArrivalCall me b x m d = ViewCall (b .n) (b .t) me (b .own) (messageInput x m) (view me b) (view me (d .base)) (d .says)

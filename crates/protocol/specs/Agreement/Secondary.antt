@@ -3,14 +3,13 @@
 use Prim.Native.Nat.{ℕ, _≤_, _<_}
 use mathlib.Core.Path.{_≡_, refl, sym, ap, _∙_}
 use mathlib.Core.Logic.{_≢_, _⊎_, inl, inr}
-use mathlib.Core.Bool.{Bool, true, false}
+use mathlib.Core.Bool.{true, false}
 use mathlib.Core.List.{List}
 use native.Mathlib.Decide.{ℕ-discrete}
 use native.Mathlib.Omega.{arith}
 use borrow.Author.Tests.{eq-eqb, ne-eqb}
 use lib.Dec.{eqb}
-use Rattle.lists.specs.Choice.{or}
-use Rattle.lists.specs.Choice.Laws.{or-true, clash}
+use Rattle.lists.specs.Choice.Laws.{or-first, or-second, or-true, clash}
 use Rattle.counting.specs.Counts.{count-below}
 use Rattle.counting.specs.Degrees.{degree}
 use Rattle.counting.specs.Spread.{TouchedBy, spread}
@@ -24,16 +23,12 @@ unfolding holdsOf
 held-cases b v x e = or-true (b .correct x v) (b .vote x v) e
 
 pub correct-held : (b : View) (v : List ℕ) (x : ℕ) → b .correct x v ≡ true → holdsOf b v x ≡ true
-unfolding holdsOf or
-correct-held b v x e = rw e
+unfolding holdsOf
+correct-held b v x e = or-first (b .vote x v) e
 
 pub vote-held : (b : View) (v : List ℕ) (x : ℕ) → b .vote x v ≡ true → holdsOf b v x ≡ true
 unfolding holdsOf
-vote-held b v x e = rw e (either (b .correct x v))
-  where
-    either : (t : Bool) → or t true ≡ true
-    either true = unfold or in refl
-    either false = unfold or in refl
+vote-held b v x e = or-second (b .correct x v) e
 
 -- Decided x v: base x has stopped with v; Voted x v: base x has broadcast Verify-Final v
 module _ (n t : ℕ) (faulty : ℕ → ℕ → ℕ) (id : ℕ → ℕ) (truth : List ℕ) (P : Premises n t faulty id truth) (base : ℕ → View)

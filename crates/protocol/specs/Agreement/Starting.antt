@@ -13,7 +13,8 @@ use Rattle.counting.specs.Counts.{count-none}
 use Rattle.frame.specs.Message.{Message, announce, verify, correctFinal, verifyFinal}
 use Rattle.protocol.specs.Agreement.Cases.{zero-or-more, true-or-false, impossible}
 use Rattle.protocol.specs.Agreement.Views.{View, Said, ViewHolds, corrects, Prime}
-use Rattle.protocol.specs.Agreement.Calls.{start, arrival, SoundView, Taken, Backed, before, as-prime, as-secondary, ViewCall}
+use Rattle.protocol.specs.Agreement.Calls.{startInput, messageInput, SoundView, Taken, Backed}
+use Rattle.protocol.specs.Agreement.Calls.{before, as-prime, as-secondary, ViewCall}
 use Rattle.protocol.specs.Agreement.Growth.{grows-then, backed-grows}
 use Rattle.protocol.specs.Agreement.Accepting.{closing}
 
@@ -82,7 +83,7 @@ module _ (n t me own : ℕ) (two : 2 ≤ n) (me-in : me < n) (above : 1 ≤ own)
   start-holds x (correctFinal v) h = h
   start-holds x (verifyFinal v) h = h
 
-  pub begins-call : ViewCall n t me own start b (startedView b) says
+  pub begins-call : ViewCall n t me own startInput b (startedView b) says
   begins-call = record {
     grows = unfold closing in record {
       names = λ x h. refl;
@@ -116,7 +117,7 @@ module _ (n t me own : ℕ) (two : 2 ≤ n) (me-in : me < n) (above : 1 ≤ own)
 
 -- ---- an arrival at an idle base: the start, and then the arrival
 module _ (n t me own x : ℕ) (m : Message) (b d : View) (said out : List Message) (off : b .state ≡ 0) (unsent : b .sent ≡ 0)
-    (S : ViewCall n t me own start b (startedView b) said) (A : ViewCall n t me own (arrival x m) (startedView b) d out) where
+    (S : ViewCall n t me own startInput b (startedView b) said) (A : ViewCall n t me own (messageInput x m) (startedView b) d out) where
   -- what the start broadcasts is no Verify-Final
   later : (v : List ℕ) → Said (verifyFinal v) (said ++ out) → Said (verifyFinal v) out
   later v h = elim (List·Memᴰ·append-cases said h) [
@@ -124,7 +125,7 @@ module _ (n t me own x : ℕ) (m : Message) (b d : View) (said out : List Messag
     | inl k ↦ absurd (omega (arith, S .backed (verifyFinal v) k .1, started-sent b, unsent))
   ]
 
-  pub start-then-call : ViewCall n t me own (arrival x m) b d (said ++ out)
+  pub start-then-call : ViewCall n t me own (messageInput x m) b d (said ++ out)
   start-then-call = record {
     grows = grows-then (S .grows) (A .grows);
     runs = A .runs;

@@ -9,23 +9,12 @@ use native.Mathlib.Omega.{arith}
 use borrow.Author.Tests.{eq-eqb, ne-eqb, not-false}
 use lib.Dec.{eqb}
 use Rattle.lists.specs.Choice.{and, or}
+use Rattle.lists.specs.Choice.Laws.{or-swap, or-second}
 use Rattle.lists.specs.Lists.{member}
 use Rattle.counting.specs.Sums.{bit}
 use Rattle.counting.specs.Sums.Bounds.{bit-most}
 use Rattle.counting.specs.Degrees.{Symmetric}
 use Rattle.protocol.specs.Agreement.Views.{View, lacks, suspect}
-
-or-swap : (a b : Bool) → or a b ≡ or b a
-unfolding or
-or-swap true true = refl
-or-swap true false = refl
-or-swap false true = refl
-or-swap false false = refl
-
-or-yes : (a : Bool) → or a true ≡ true
-unfolding or
-or-yes true = refl
-or-yes false = refl
 
 bit-or-none : (a b : Bool) → bit (or a b) ≡ 0 → a ≡ false
 unfolding or bit
@@ -69,7 +58,7 @@ module _ (me : ℕ) (b : View) where
 
   pub suspect-lacking : (x y : ℕ) → x ≢ y → lacks me b y x ≡ true → suspect me b x y ≡ 1
   unfolding bit
-  suspect-lacking x y ne e = suspect-apart x y ne ∙ rw (e, or-yes (lacks me b x y))
+  suspect-lacking x y ne e = suspect-apart x y ne ∙ rw (or-second (lacks me b x y) e)
 
   pub suspect-neither : (x y : ℕ) → lacks me b x y ≡ false → lacks me b y x ≡ false → suspect me b x y ≡ 0
   suspect-neither x y p q = elim (ℕ-discrete x y) [

@@ -1,6 +1,7 @@
 -- Laws of one link: whether it announces, how much it holds, and what it does not hold.
 use Prim.Native.Nat.{ℕ, _≤_}
 use mathlib.Core.Path.{_≡_, refl, ap, _∙_}
+use mathlib.Core.Logic.{_≢_}
 use mathlib.Core.Bool.{Bool, true, false, not}
 use mathlib.Core.List.{List}
 use native.Mathlib.Omega.{arith}
@@ -40,6 +41,10 @@ pub no-announce : (l : Link) → l .announce ≡ 0 → announces l ≡ false
 unfolding announces
 no-announce l e = ap not (eq-eqb (l .announce) 0 e)
 
+pub no-vector : (n kind : ℕ) (l : Link) (v : List ℕ) → l .held ≢ kind → holdsVector n kind l v ≡ false
+unfolding holdsVector and
+no-vector n kind l v ne = ap (λ (t : Bool). and t (sameList (take n (l .list)) v)) (ne-eqb (l .held) kind ne)
+
 pub no-correct : (n : ℕ) (l : Link) (v : List ℕ) → l .held ≡ 0 → holdsCorrect n l v ≡ false
-unfolding holdsCorrect holdsVector and
-no-correct n l v e = ap (λ (t : Bool). and t (sameList (take n (l .list)) v)) (ne-eqb (l .held) 3 (λ q. omega (arith, q)))
+unfolding holdsCorrect
+no-correct n l v e = no-vector n 3 l v (λ q. omega (arith, q))

@@ -20,7 +20,7 @@ use Rattle.protocol.specs.Sound.{stopped, finalSound, recordRefusal}
 use Rattle.protocol.specs.Sound.Laws.{ListParts, parts-list}
 use Rattle.protocol.specs.Steps.{Done, discards, accepts, withState, withFinal, stops}
 use Rattle.protocol.specs.Steps.{onMessage, begins, startStep, start, arrivalStep, arrival}
-use Rattle.protocol.specs.Steps.Cases.{Decides, prime, secondary, Ends, discarding, runningOn}
+use Rattle.protocol.specs.Steps.Cases.{Decides, decidesPrime, decidesSecondary, Ends, discarding, runningOn}
 use Rattle.protocol.specs.Steps.Cases.{stopping, message-ends, begun, afterStart, start-step-cases, arrival-step-cases}
 use Rattle.protocol.specs.Steps.Refusals.{Heard, arrival-heard, start-answered, arrival-answered}
 use Rattle.protocol.specs.Steps.Decided.{Roster, decides-roster, roster-padded}
@@ -38,8 +38,8 @@ pub record Kept (b : Base) (d : Done) : Type 0 where
 
 -- ---- a base that stops
 decides-state : {c : Base} {m : Message} {state : ℕ} {v : List ℕ} → Decides c m state v → (2 ≤ state) × (state ≤ 3)
-decides-state (prime H e) = (omega arith, omega arith)
-decides-state (secondary H e) = (omega arith, omega arith)
+decides-state (decidesPrime H e) = (omega arith, omega arith)
+decides-state (decidesSecondary H e) = (omega arith, omega arith)
 
 stopped-final : (b : Base) → 2 ≤ b .state → ListParts (b .n) (b .«final_list») → finalSound b ≡ true
 unfolding finalSound stopped

@@ -8,7 +8,7 @@ use native.Mathlib.Omega.{arith}
 use borrow.Author.Tests.{ne-eqb}
 use lib.ListN.{length, getD}
 use Rattle.limits.specs.Limits.{mostLinks}
-use Rattle.lists.specs.Choice.{choose, and, or}
+use Rattle.lists.specs.Choice.{choose, or}
 use Rattle.lists.specs.Choice.Laws.{and-both}
 use Rattle.lists.specs.Lists.{nonzero, ascending, Below}
 use Rattle.lists.specs.Lists.Sets.{below-cons}
@@ -25,7 +25,7 @@ use Rattle.protocol.specs.Sound.Running.{Runs, admitted-runs, begun-runs
 use Rattle.protocol.specs.Steps.{Done, refuses, discards, accepts, withState, stops}
 use Rattle.protocol.specs.Steps.{onMessage, begins, startStep, start, arrivalStep, arrival}
 use Rattle.protocol.specs.Steps.Cases.{Takes, takesAnnounce, takesVerify, takesCorrect, takesAndVotes, takesVerifyFinal}
-use Rattle.protocol.specs.Steps.Cases.{Decides, prime, secondary, Ends, discarding, runningOn}
+use Rattle.protocol.specs.Steps.Cases.{Decides, decidesPrime, decidesSecondary, Ends, discarding, runningOn}
 use Rattle.protocol.specs.Steps.Cases.{stopping, message-ends, begun, afterStart, start-step-cases, arrival-step-cases}
 use Rattle.protocol.specs.Steps.Refusals.{Heard, arrival-heard, start-cases, arrival-cases}
 use Rattle.protocol.specs.Steps.Decided.{Roster, decides-roster}
@@ -88,8 +88,8 @@ decides-valid : {c : Base} {m : Message} {state : ℕ} {v : List ℕ} → Runs c
 decides-valid {c} {m} {v = v} R W w D = roster-valid (c .n) v (decides-roster (R .standing .own) (R .standing .apart) w D) (words D)
   where
     words : {state : ℕ} {v : List ℕ} → Decides c m state v → Below (2 ^ 32) v
-    words (prime H e) = below-sort (2 ^ 32) (certified c) (omega arith) (certified-words c W)
-    words (secondary H e) = w .words
+    words (decidesPrime H e) = below-sort (2 ^ 32) (certified c) (omega arith) (certified-words c W)
+    words (decidesSecondary H e) = w .words
 
 -- ---- steps
 -- the messages broadcast are valid, and the record's identifiers still have 32 bits

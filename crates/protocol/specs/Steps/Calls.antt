@@ -17,17 +17,17 @@ use Rattle.protocol.specs.Steps.Laws.{SameSetting}
 
 -- a call, with its data: a start with the length of its output; an arrival with its link number, its burst and the length of its output
 pub data Call : Type 0 where
-  starts : ℕ → Call
-  arrives : ℕ → List ℕ → ℕ → Call
+  startCall : ℕ → Call
+  arrivalCall : ℕ → List ℕ → ℕ → Call
 
 -- a burst is made of bytes
 abbrev pub CallBytes : Call → Type 0
-CallBytes (starts room) = Unit {0}
-CallBytes (arrives link burst room) = Below 256 burst
+CallBytes (startCall room) = Unit {0}
+CallBytes (arrivalCall link burst room) = Below 256 burst
 
 unfoldable pub called : Base → Call → Done
-called b (starts room) = start b room
-called b (arrives link burst room) = arrival b link burst room
+called b (startCall room) = start b room
+called b (arrivalCall link burst room) = arrival b link burst room
 
 -- ---- a whole life
 abbrev pub AllBytes : List Call → Type 0
@@ -59,8 +59,8 @@ kept-held K = record { setting = K .setting; sized = K .sized; refusal = λ _. K
 
 pub call-held : (b : Base) (c : Call) → Sized b → CallBytes c → Held b (called b c)
 unfolding called
-call-held b (starts room) S bytes = start-cases (Held b) b room (λ r _. refuses-held b r S) (λ e. kept-held (start-step-kept b S e))
-call-held b (arrives link burst room) S bytes = arrival-cases (Held b) b link burst room (λ r _. refuses-held b r S)
+call-held b (startCall room) S bytes = start-cases (Held b) b room (λ r _. refuses-held b r S) (λ e. kept-held (start-step-kept b S e))
+call-held b (arrivalCall link burst room) S bytes = arrival-cases (Held b) b link burst room (λ r _. refuses-held b r S)
     (λ e. kept-held (arrival-step-kept b _ _ S (arrival-heard b link burst room bytes e)))
 
 pub calls-sized : (b : Base) (calls : List Call) → Sized b → AllBytes calls → Sized (afterCalls b calls)
@@ -86,8 +86,8 @@ after-sound b (c ∷ calls) S bytes e =
 -- ---- a base that has stopped
 stopped-call : (b : Base) (c : Call) → stopped b ≡ true → Unchanged b (called b c)
 unfolding called
-stopped-call b (starts room) e = stopped-start b room e
-stopped-call b (arrives link burst room) e = stopped-arrival b link burst room e
+stopped-call b (startCall room) e = stopped-start b room e
+stopped-call b (arrivalCall link burst room) e = stopped-arrival b link burst room e
 
 pub stopped-for-ever : (b : Base) (calls : List Call) → stopped b ≡ true → (afterCalls b calls ≡ b) × (life b calls ≡ [])
 unfolding afterCalls life

@@ -19,7 +19,7 @@ use Rattle.protocol.specs.Sound.{idle, stopped}
 use Rattle.protocol.specs.Sound.Idle.{idle-not-stopped}
 use Rattle.protocol.specs.Steps.{Done, discards, accepts, withLink, withSent, withState, withAnnounce, withVerify, withVector}
 use Rattle.protocol.specs.Steps.{primeHolds, secondaryHolds, stops, primeCheck, secondaryCheck, onAnnounce, onVerify, votes, vote}
-use Rattle.protocol.specs.Steps.{onCorrectFinal, onVerifyFinal, onMessage, begins, startStep, andThen, arrivalStep, start, arrival}
+use Rattle.protocol.specs.Steps.{onCorrectFinal, onVerifyFinal, onMessage, begins, startStep, andThen, arrivalStep}
 
 -- ---- an arrival at a running base
 -- b with a vector message held on the link at place i
@@ -48,8 +48,8 @@ HoldsList m = (n : ℕ) → expected (kindOf m) n ≡ n
 -- the check that follows on the message makes c stop, in this state and with this final
 -- list: the prime check on kinds 1 and 2, the secondary on 3 and 4
 pub data Decides (c : Base) (m : Message) : ℕ → List ℕ → Type 0 where
-  prime : HoldsOne m → primeHolds c ≡ true → Decides c m 2 (sort (certified c))
-  secondary : HoldsList m → secondaryHolds c (idsOf m) ≡ true → Decides c m 3 (idsOf m)
+  decidesPrime : HoldsOne m → primeHolds c ≡ true → Decides c m 2 (sort (certified c))
+  decidesSecondary : HoldsList m → secondaryHolds c (idsOf m) ≡ true → Decides c m 3 (idsOf m)
 
 pub data Ends (b : Base) (i : ℕ) (m : Message) : Done → Type 0 where
   discarding : Ends b i m (discards b)
@@ -60,12 +60,12 @@ pub data Ends (b : Base) (i : ℕ) (m : Message) : Done → Type 0 where
 prime-ends : {b : Base} {i : ℕ} {m : Message} {c : Base} {said : List Message} → HoldsOne m → Takes b i m c said
     → Ends b i m (primeCheck c said)
 unfolding primeCheck
-prime-ends {b} {i} {m} {c} H T = choose-ind (Ends b i m) _ (λ e. stopping T (prime H e)) (λ e. runningOn T)
+prime-ends {b} {i} {m} {c} H T = choose-ind (Ends b i m) _ (λ e. stopping T (decidesPrime H e)) (λ e. runningOn T)
 
 secondary-ends : {b : Base} {i : ℕ} {m : Message} {c : Base} {said : List Message} → HoldsList m → Takes b i m c said
     → Ends b i m (secondaryCheck c (idsOf m) said)
 unfolding secondaryCheck
-secondary-ends {b} {i} {m} {c} H T = choose-ind (Ends b i m) _ (λ e. stopping T (secondary H e)) (λ e. runningOn T)
+secondary-ends {b} {i} {m} {c} H T = choose-ind (Ends b i m) _ (λ e. stopping T (decidesSecondary H e)) (λ e. runningOn T)
 
 announce-one : (g : ℕ) → HoldsOne (announce g)
 unfolding kindOf expected holdsOne or choose

@@ -15,7 +15,7 @@ use Rattle.protocol.specs.declared.Base.{Base}
 use Rattle.protocol.specs.Record.{certified}
 use Rattle.protocol.specs.Record.Announced.{nonzero-certified}
 use Rattle.protocol.specs.Sound.Laws.{ListParts}
-use Rattle.protocol.specs.Steps.Cases.{HoldsList, Decides, prime, secondary}
+use Rattle.protocol.specs.Steps.Cases.{HoldsList, Decides, decidesPrime, decidesSecondary}
 use Rattle.protocol.specs.Steps.Checks.{prime-parts}
 
 pub record Roster (n : ℕ) (v : List ℕ) : Type 0 where
@@ -28,12 +28,12 @@ valid-roster {n} H w = record { count = w .count ∙ H n; above-zero = w .above-
 
 pub decides-roster : {c : Base} {m : Message} {state : ℕ} {v : List ℕ} → 1 ≤ c .own → distinct (certified c) ≡ true → Valid (c .n) m
     → Decides c m state v → Roster (c .n) v
-decides-roster {c} some apart w (prime H e) = record {
+decides-roster {c} some apart w (decidesPrime H e) = record {
   count = length-sort (certified c) ∙ prime-parts c e .count;
   above-zero = nonzero-sort (certified c) ∙ nonzero-certified c some;
   ascends = ascending-sort (certified c) apart;
 }
-decides-roster some apart w (secondary H e) = valid-roster H w
+decides-roster some apart w (decidesSecondary H e) = valid-roster H w
 
 -- in an array, zeros behind
 pub roster-padded : {n : ℕ} {v : List ℕ} → Roster n v → ListParts n (padTo mostBases v)

@@ -4,14 +4,13 @@
 use Prim.Native.Nat.{ℕ, _-_, _≤_, _<_}
 use mathlib.Core.Path.{subst, subst₂, sym, _≡_, refl, ap, _∙_}
 use mathlib.Core.Logic.{_≢_}
-use mathlib.Core.Bool.{true, false, not}
+use mathlib.Core.Bool.{true, false}
 use mathlib.Core.List.{List, [], _∷_}
 use native.Mathlib.Nat.{mul-le-mul-right}
 use native.Mathlib.Omega.{arith}
 use lib.ListN.{length}
 use Rattle.limits.specs.Limits.{mostLinks, mostFaulty, frameBytes}
 use Rattle.limits.specs.Refusals.{NetSize}
-use Rattle.lists.specs.Choice.{and}
 use Rattle.lists.specs.Lists.{member, sumOver}
 use Rattle.counting.specs.Sums.{bit, sum}
 use Rattle.counting.specs.Sums.Bounds.{bit-most, sum-none, sum-lone}
@@ -29,7 +28,7 @@ use Rattle.protocol.specs.Sound.Laws.{EmptyParts, idle-place, sound-part
 use Rattle.protocol.specs.Steps.{Done, discards, accepts, withLink, withState, withAnnounce}
 use Rattle.protocol.specs.Steps.{withVerify, withVector, primeHolds, votes, onMessage, encodeAll}
 use Rattle.protocol.specs.Steps.Cases.{holdingVector, Takes, takesAnnounce, takesVerify, takesCorrect, takesAndVotes}
-use Rattle.protocol.specs.Steps.Cases.{takesVerifyFinal, Decides, prime, secondary, Ends, discarding}
+use Rattle.protocol.specs.Steps.Cases.{takesVerifyFinal, Decides, decidesPrime, decidesSecondary, Ends, discarding}
 use Rattle.protocol.specs.Steps.Cases.{runningOn, stopping, message-ends, begun}
 use Rattle.protocol.specs.Steps.Checks.{prime-parts, secondary-parts, vote-parts}
 use Rattle.protocol.specs.Steps.Laws.{SameSetting, stored-other, takes-rest, takes-other, changed, takes-each}
@@ -117,8 +116,8 @@ module _ (c : Base) (N : NetSize (c .n)) (few : c .t ≤ mostFaulty (c .n)) (bla
   no-prime (takesVerifyFinal v o) = silent-not-prime (takesVerifyFinal v o) (blank i here .announce)
 
   no-decision : {m : Message} {d : Base} {said : List Message} {state : ℕ} {v : List ℕ} → Takes c i m d said → Decides d m state v → ⊥
-  no-decision T (prime H e) = no-prime T e
-  no-decision {m = m} {d = d} T (secondary H e) =
+  no-decision T (decidesPrime H e) = no-prime T e
+  no-decision {m = m} {d = d} T (decidesSecondary H e) =
       omega (arith, secondary-parts d (idsOf m) e .correct, correct-most d (idsOf m) (takes-other T))
 
   takes-quiet : {m : Message} {d : Base} {said : List Message} → Takes c i m d said → Quiet c (accepts d said)

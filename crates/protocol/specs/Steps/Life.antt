@@ -17,7 +17,7 @@ use Rattle.counting.specs.Sums.{bit}
 use Rattle.counting.specs.Sums.Bounds.{bit-most}
 use Rattle.frame.specs.Message.{Message, announce, correctFinal, idsOf, Valid}
 use Rattle.protocol.specs.declared.Base.{Base}
-use Rattle.protocol.specs.Record.{linkAt, linkCount, announced}
+use Rattle.protocol.specs.Record.{linkAt, linkCount}
 use Rattle.protocol.specs.Record.Laws.{link-count, link-fewer}
 use Rattle.protocol.specs.Record.Announced.{length-announced}
 use Rattle.protocol.specs.Record.Memory.{Sized}
@@ -26,10 +26,12 @@ use Rattle.protocol.specs.Sound.Laws.{record-passed}
 use Rattle.protocol.specs.Steps.{Done, refuses, discards, accepts, withLink, withSent, withState, withFinal}
 use Rattle.protocol.specs.Steps.{withVerify, withVector, stops, onMessage, begins, startStep, arrivalStep}
 use Rattle.protocol.specs.Steps.Cases.{holdingVector, Takes, takesAnnounce, takesVerify, takesCorrect, takesAndVotes}
-use Rattle.protocol.specs.Steps.Cases.{takesVerifyFinal, Decides, prime, secondary, Ends, discarding, runningOn, stopping}
+use Rattle.protocol.specs.Steps.Cases.{takesVerifyFinal, Decides, decidesPrime, decidesSecondary}
+use Rattle.protocol.specs.Steps.Cases.{Ends, discarding, runningOn, stopping}
 use Rattle.protocol.specs.Steps.Cases.{message-ends, begun, afterStart, start-step-cases, arrival-step-cases}
 use Rattle.protocol.specs.Steps.Refusals.{Heard, arrival-heard, start-cases, arrival-cases}
-use Rattle.protocol.specs.Steps.Calls.{Call, starts, arrives, CallBytes, called, AllBytes, afterCalls, life, call-held, after-setting}
+use Rattle.protocol.specs.Steps.Calls.{Call, startCall, arrivalCall, CallBytes, called}
+use Rattle.protocol.specs.Steps.Calls.{AllBytes, afterCalls, life, call-held, after-setting}
 use Rattle.protocol.specs.Steps.Certified.{announcedTo, announced-kept, announced-added}
 use Rattle.protocol.specs.Steps.Checks.{vote-parts}
 use Rattle.protocol.specs.Steps.Laws.{takes-rest, changed}
@@ -72,8 +74,8 @@ spent-start heard sent = omega arith
 spent-stop : {c : Base} {m : Message} {state : ℕ} {v : List ℕ} → Decides c m state v → (heard sent : ℕ)
     → spentBy state heard sent ≡ spentBy 1 heard sent + 1
 unfolding spentBy bit choose
-spent-stop (prime H e) heard sent = omega arith
-spent-stop (secondary H e) heard sent = omega arith
+spent-stop (decidesPrime H e) heard sent = omega arith
+spent-stop (decidesSecondary H e) heard sent = omega arith
 
 -- ---- a step's messages are what its record has more
 abbrev pub Paid : Base → Done → Type 0
@@ -155,8 +157,8 @@ arrival-step-paid b i m S H = arrival-step-cases (Paid b) b i m (λ _. discards-
 -- ---- a call, and a life
 pub call-paid : (b : Base) (c : Call) → Sized b → CallBytes c → Paid b (called b c)
 unfolding called
-call-paid b (starts room) S bytes = start-cases (Paid b) b room (λ r _. refuses-paid b r) (λ _. start-step-paid b)
-call-paid b (arrives link burst room) S bytes = arrival-cases (Paid b) b link burst room (λ r _. refuses-paid b r)
+call-paid b (startCall room) S bytes = start-cases (Paid b) b room (λ r _. refuses-paid b r) (λ _. start-step-paid b)
+call-paid b (arrivalCall link burst room) S bytes = arrival-cases (Paid b) b link burst room (λ r _. refuses-paid b r)
     (λ e. arrival-step-paid b _ _ S (arrival-heard b link burst room bytes e))
 
 pub life-count : (b : Base) (calls : List Call) → Sized b → AllBytes calls → spent b + length (life b calls) ≡ spent (afterCalls b calls)

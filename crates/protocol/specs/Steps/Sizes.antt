@@ -18,12 +18,12 @@ use Rattle.frame.specs.Message.Laws.{expected-range}
 use Rattle.protocol.specs.Steps.{Done, discards, accepts, stops, onAnnounce}
 use Rattle.protocol.specs.Steps.{onVerify, onCorrectFinal, onVerifyFinal, onMessage, encodeAll}
 use Rattle.protocol.specs.Steps.Cases.{Takes, takesAnnounce, takesVerify, takesCorrect, takesAndVotes, takesVerifyFinal, Decides}
-use Rattle.protocol.specs.Steps.Cases.{prime, secondary, Ends, discarding, runningOn, stopping, message-ends}
+use Rattle.protocol.specs.Steps.Cases.{decidesPrime, decidesSecondary, Ends, discarding, runningOn, stopping, message-ends}
 use Rattle.protocol.specs.Steps.Checks.{prime-parts}
 use Rattle.protocol.specs.Steps.Laws.{takes-rest}
 
 -- ---- the bytes of messages one after another
-length-encode : (m : Message) → length (encode m) ≡ frameBytes (length (idsOf m))
+pub length-encode : (m : Message) → length (encode m) ≡ frameBytes (length (idsOf m))
 unfolding encode
 length-encode m = length-frame (kindOf m) (idsOf m)
 
@@ -74,8 +74,8 @@ valid-fits b m e w =
 -- the list that becomes final fits in a frame
 pub decides-fits : {c : Base} {m : Message} {state : ℕ} {v : List ℕ} → c .n ≤ mostBases → length (idsOf m) ≤ mostBases → Decides c m state v
     → length v ≤ mostBases
-decides-fits {c} h k (prime H e) = omega (arith, length-sort (certified c), prime-parts c e .count)
-decides-fits h k (secondary H e) = k
+decides-fits {c} h k (decidesPrime H e) = omega (arith, length-sort (certified c), prime-parts c e .count)
+decides-fits h k (decidesSecondary H e) = k
 
 ends-brief : {b : Base} {i : ℕ} {m : Message} {d : Done} → b .n ≤ mostBases → length (idsOf m) ≤ mostBases → Ends b i m d
     → Brief 2 (saidRoom m + longestFrame) d

@@ -13,7 +13,8 @@ use Rattle.lists.specs.Choice.Laws.{choose-yes, first-passed}
 use Rattle.frame.specs.Encoding.{encode}
 use Rattle.protocol.specs.Net.{Pair, Event, starts, carry, forge, at, call, eventRefusal, refusal, settled, happens, run}
 use Rattle.protocol.specs.Net as Nets
-use Rattle.protocol.specs.Agreement.{BaseOf, Setting, Fresh, Proper, AllProper}
+use Rattle.protocol.specs.Agreement.{BaseOf, Setting, Fresh, Proper}
+use Rattle.protocol.specs.Agreement.Longer.{run-more, proper-more}
 use Rattle.protocol.specs.Agreement.Besides.{orderly}
 use Rattle.protocol.specs.Agreement.Inner.Moves.{replaced-here}
 use Rattle.protocol.specs.Agreement.Outer.Refusals.{carry-names-broadcast, carry-has-number}
@@ -26,16 +27,6 @@ use Rattle.representation.specs.Represents.{Represents, History}
 use Rattle.representation.specs.Represents.Steps.{HasPlace, abstract-after, after-sized-net, after-links, after-n, after-t}
 
 -- ---- histories
-run-snoc : (faulty : List Pair) (W : Nets.Net) (es : List Event) (e : Event)
-    → run faulty W (es ++ (e ∷ [])) ≡ happens faulty (run faulty W es) e
-unfolding run
-run-snoc faulty W [] e = refl
-run-snoc faulty W (f ∷ es) e = run-snoc faulty (happens faulty W f) es e
-
-proper-snoc : (n : ℕ) (es : List Event) (e : Event) → AllProper n es → Proper n e → AllProper n (es ++ (e ∷ []))
-proper-snoc n [] e p q = (q, tt)
-proper-snoc n (f ∷ es) e p q = (p .0, proper-snoc n es e (p .1) q)
-
 pub history-begins : {n t : ℕ} {faulty : List Pair} {W : Nets.Net} → Setting n t faulty → Fresh n t W → History n t faulty W
 unfolding run
 history-begins {W = W} S F = record { beginning = W; events = []; setting = S; fresh = F; proper = tt; now-is = refl }
@@ -47,8 +38,8 @@ history-goes-on {n} {t} {faulty} e H p = record {
   events = H .events ++ (e ∷ []);
   setting = H .setting;
   fresh = H .fresh;
-  proper = proper-snoc n (H .events) e (H .proper) p;
-  now-is = ap (λ (W : Nets.Net). happens faulty W e) (H .now-is) ∙ sym (run-snoc faulty (H .beginning) (H .events) e);
+  proper = proper-more n (H .events) e (H .proper) p;
+  now-is = ap (λ (W : Nets.Net). happens faulty W e) (H .now-is) ∙ sym (run-more faulty (H .beginning) (H .events) e);
 }
 
 -- "A base broadcasts at most n + 3 in its life."

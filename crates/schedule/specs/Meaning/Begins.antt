@@ -5,8 +5,8 @@ use mathlib.Core.Path.{_≡_, refl, sym, ap, _∙_, subst}
 use mathlib.Core.Bool.{Bool, true, false, not}
 use mathlib.Core.List.{List, [], _∷_}
 use native.Mathlib.Omega.{arith}
-use borrow.Author.Tests.{eqb-true, eqb-false, eq-eqb, ne-eqb, ltb-false, leb-false}
-use lib.Dec.{eqb, ltb, leb}
+use borrow.Author.Tests.{eqb-true, eqb-false, leb-false}
+use lib.Dec.{eqb, leb}
 use lib.ListN.{length, length-append}
 use Rattle.limits.specs.Limits.{mostBases, mostFaulty}
 use Rattle.limits.specs.Refusals.{sizeRefusal, ownRefusal, NetSize}
@@ -19,12 +19,13 @@ use Rattle.lines.specs.Lines.Told.{number-ind, two-ind, TwoTold, FaultyTold, ne
 use Rattle.protocol.specs.Sound.{idleBase}
 use Rattle.protocol.specs.Net.{Net, Pair, good, replaced}
 use Rattle.protocol.specs.Agreement.{BaseOf, Setting, Fresh}
+use Rattle.protocol.specs.Agreement.Inner.Moves.{replaced-here, replaced-other}
 use Rattle.protocol.specs.Agreement.Premise.{idleNet, idle-fresh}
 use Rattle.schedule.specs.Header.{owned, idRefusal, faultyRefusal}
 use Rattle.schedule.specs.Walk.{headerWalk, markStep, netStep, idStep, idSteps, faultyStep}
 use Rattle.schedule.specs.Meaning.{Progress, unread, onward, withSize, withId, withFaulty, header, scheduled}
-use Rattle.schedule.specs.Meaning.Laws.{Unrefused, refuse-owes, judged-owes, unless-owes}
-use Rattle.schedule.specs.Walk.Laws.{repeat-ind}
+use Rattle.schedule.specs.Meaning.Laws.{refuse-unrefused, judged-unrefused, unless-unrefused}
+use Rattle.schedule.specs.Walk.Laws.{Unrefused, repeat-ind}
 
 -- the bases 1 to k have identifiers of 32 bits above zero, different at each
 pub record Named (k : ℕ) (id : ℕ → ℕ) : Type 0 where
@@ -55,12 +56,12 @@ sized-begins n t next size limit = record {
   net = refl;
 }
 
-pub net-begins : (s : List ℕ) → Unrefused (Begins 0) (netStep scheduled s unread)
+pub net-begins : (s : List ℕ) → Unrefused scheduled (Begins 0) (netStep scheduled s unread)
 unfolding netStep
 net-begins s =
-    two-ind (Unrefused (Begins 0)) (netLine s (unread .at))
-    (TwoTold (unread .at)) (net-told s (unread .at)) (refuse-owes (Begins 0) 13 unread (λ e. omega arith))
-    (λ n t next told. judged-owes (Begins 0) (sizeRefusal n t)
+    two-ind (Unrefused scheduled (Begins 0)) (netLine s (unread .at))
+    (TwoTold (unread .at)) (net-told s (unread .at)) (refuse-unrefused (Begins 0) 13 unread (λ e. omega arith))
+    (λ n t next told. judged-unrefused (Begins 0) (sizeRefusal n t)
     unread (withSize n t (onward next unread)) (λ e _. let p = size-passed n t e in sized-begins n t next (p .0) (p .1)))
 
 -- ---- `id b v`
@@ -76,25 +77,16 @@ free (suc k) W v e b B q = cases (eqb b (suc k)) refl (λ C. free k W v (or-fals
         (subst (λ (z : ℕ). W .base z .own ≡ v) (eqb-true b (suc k) y) q)
     cases false y rest = rest (record { least = B .least; most = omega (arith, B .most, eqb-false b (suc k) y) })
 
--- one entry replaced
-replaced-here : (x v : ℕ) (id : ℕ → ℕ) (b : ℕ) → b ≡ x → replaced x v id b ≡ v
-unfolding replaced
-replaced-here x v id b e = choose-yes v (id b) (eq-eqb b x e)
-
-replaced-there : (x v : ℕ) (id : ℕ → ℕ) (b : ℕ) → (b ≡ x → ⊥) → replaced x v id b ≡ id b
-unfolding replaced
-replaced-there x v id b e = choose-no v (id b) (ne-eqb b x e)
-
 -- one identifier more
 named-more : (k v : ℕ) (id : ℕ → ℕ)
     → Named k id → 1 ≤ v → v < 2 ^ 32 → ((b : ℕ) → BaseOf k b → id b ≡ v → ⊥) → Named (suc k) (replaced (suc k) v id)
 named-more k v id N some word new = record { range = range; different = different }
   where
     here : (b : ℕ) → b ≡ suc k → replaced (suc k) v id b ≡ v
-    here b e = replaced-here (suc k) v id b e
+    here b e = ap (replaced (suc k) v id) e ∙ replaced-here (suc k) v id
 
     there : (b : ℕ) → (b ≡ suc k → ⊥) → replaced (suc k) v id b ≡ id b
-    there b e = replaced-there (suc k) v id b e
+    there b e = replaced-other (suc k) v id b e
 
     below : (b : ℕ) → BaseOf (suc k) b → (b ≡ suc k → ⊥) → BaseOf k b
     below b B e = record { least = B .least; most = omega (arith, B .most) }
@@ -176,16 +168,17 @@ named-begins m k v next st l word e g =
     )
 
 id-begins : (s : List ℕ) (m k : ℕ) (st : Progress)
-    → suc k ≤ m → Unrefused (Given m k) st → Unrefused (Given m (suc k)) (idStep scheduled s (suc k) st)
+    → suc k ≤ m → Unrefused scheduled (Given m k) st → Unrefused scheduled (Given m (suc k)) (idStep scheduled s (suc k) st)
 unfolding idStep
 id-begins s m k st l before =
-    unless-owes (Given m (suc k)) st _ (λ none.
-    number-ind (Unrefused (Given m (suc k))) (idLine (suc k) s (st .at))
-    (Field (st .at)) (id-told (suc k) s (st .at)) (refuse-owes (Given m (suc k)) 13 st (λ e. omega arith))
-    (λ v next f. judged-owes (Given m (suc k)) (idRefusal (st .net) v) st (withId (suc k) v (onward next st))
+    unless-unrefused (Given m (suc k)) st _ (λ none.
+    number-ind (Unrefused scheduled (Given m (suc k))) (idLine (suc k) s (st .at))
+    (Field (st .at)) (id-told (suc k) s (st .at)) (refuse-unrefused (Given m (suc k)) 13 st (λ e. omega arith))
+    (λ v next f. judged-unrefused (Given m (suc k)) (idRefusal (st .net) v) st (withId (suc k) v (onward next st))
     (λ e _. named-begins m k v next st l (omega (arith, f .0)) e (before none))))
 
-ids-begin : (s : List ℕ) (m k : ℕ) (st : Progress) → k ≤ m → Unrefused (Given m 0) st → Unrefused (Given m k) (idSteps scheduled s k st)
+ids-begin : (s : List ℕ) (m k : ℕ) (st : Progress) → k ≤ m → Unrefused scheduled (Given m 0) st
+    → Unrefused scheduled (Given m k) (idSteps scheduled s k st)
 unfolding idSteps
 ids-begin s m zero st l before = before
 ids-begin s m (suc k) st l before = id-begins s m k (idSteps scheduled s k st) l (ids-begin s m k st (omega arith) before)
@@ -210,32 +203,33 @@ marked-begins a b next st e B = record {
   net = B .net;
 }
 
-mark-begins : (a b next : ℕ) (st : Progress) → Whole st → Unrefused Whole (markStep scheduled a b next st)
+mark-begins : (a b next : ℕ) (st : Progress) → Whole st → Unrefused scheduled Whole (markStep scheduled a b next st)
 unfolding markStep
 mark-begins a b next st B =
-    choose-ind (Unrefused Whole) (not (good (st .faulty) a b)) (λ _. refuse-owes Whole 13 st (λ e. omega arith))
-    (λ _. judged-owes Whole (faultyRefusal (st .t) (st .faulty)) st (withFaulty a b (onward next st))
+    choose-ind (Unrefused scheduled Whole) (not (good (st .faulty) a b)) (λ _. refuse-unrefused Whole 13 st (λ e. omega arith))
+    (λ _. judged-unrefused Whole (faultyRefusal (st .t) (st .faulty)) st (withFaulty a b (onward next st))
     (λ e _. marked-begins a b next st e B))
 
-pub faulty-begins : (s : List ℕ) (st : Progress) → Unrefused Whole st → Unrefused Whole (faultyStep scheduled s st)
+pub faulty-begins : (s : List ℕ) (st : Progress) → Unrefused scheduled Whole st → Unrefused scheduled Whole (faultyStep scheduled s st)
 unfolding faultyStep
 faulty-begins s st before =
-    unless-owes Whole st _ (λ none.
-    two-ind (Unrefused Whole) (faultyLine (st .n) s (st .at)) (FaultyTold (st .n) (st .at)) (faulty-told (st .n) s (st .at)) before
+    unless-unrefused Whole st _ (λ none.
+    two-ind (Unrefused scheduled Whole) (faultyLine (st .n) s (st .at)) (FaultyTold (st .n) (st .at))
+    (faulty-told (st .n) s (st .at)) before
     (λ a b next _. mark-begins a b next st (before none)))
 
 -- ---- the whole header
-pub ids-whole : (s : List ℕ) → Unrefused Whole (idSteps scheduled s (netStep scheduled s unread .n) (netStep scheduled s unread))
+pub ids-whole : (s : List ℕ) → Unrefused scheduled Whole (idSteps scheduled s (netStep scheduled s unread .n) (netStep scheduled s unread))
 ids-whole s e =
     let sized = netStep scheduled s unread in
     let g = ids-begin s (sized .n) (sized .n) sized (omega arith) (λ q. (net-begins s q, refl)) e in
     subst (λ (k : ℕ). Begins k (idSteps scheduled s (sized .n) sized)) (sym (g .1)) (g .0)
 
-pub header-begins : (s : List ℕ) → Unrefused Whole (header s)
+pub header-begins : (s : List ℕ) → Unrefused scheduled Whole (header s)
 unfolding headerWalk
 header-begins s =
     let named = idSteps scheduled s (netStep scheduled s unread .n) (netStep scheduled s unread) in
-    repeat-ind (Unrefused Whole) (faultyStep scheduled s) (λ st p. faulty-begins s st p) (suc (named .t)) named (ids-whole s)
+    repeat-ind (Unrefused scheduled Whole) (faultyStep scheduled s) (λ st p. faulty-begins s st p) (suc (named .t)) named (ids-whole s)
 
 -- ---- what agreement asks of the beginning
 pub begins-setting : (st : Progress) → Whole st → Setting (st .n) (st .t) (st .faulty)

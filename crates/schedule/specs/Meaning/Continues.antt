@@ -17,21 +17,11 @@ use Rattle.lines.specs.Lines.Laws.{net-base-range, two-range}
 use Rattle.lines.specs.Lines.Told.{EventTold, event-told}
 use Rattle.protocol.specs.Net.{Net, Pair, Event, starts, carry, forge, eventRefusal, happens, run}
 use Rattle.protocol.specs.Agreement.{BaseOf, Proper, AllProper}
+use Rattle.protocol.specs.Agreement.Longer.{run-more, proper-more}
 use Rattle.schedule.specs.Walk.{linesWalk, walk, eventStep, lineStep, nextLine, repeat}
 use Rattle.schedule.specs.Meaning.{Progress, refuse, onward, withNet, wholeSchedule, header, meaning, scheduled}
-use Rattle.schedule.specs.Meaning.Laws.{Unrefused, refuse-owes, judged-owes, unless-ind, unless-owes}
-use Rattle.schedule.specs.Walk.Laws.{repeat-ind}
-
--- ---- one event more at the end of a history
-pub run-more : (faulty : List Pair) (W : Net) (es : List Event) (e : Event)
-    → run faulty W (es ++ (e ∷ [])) ≡ happens faulty (run faulty W es) e
-unfolding run
-run-more faulty W [] e = refl
-run-more faulty W (x ∷ es) e = run-more faulty (happens faulty W x) es e
-
-pub proper-more : (n : ℕ) (es : List Event) (e : Event) → AllProper n es → Proper n e → AllProper n (es ++ (e ∷ []))
-proper-more n [] e p q = (q, tt)
-proper-more n (x ∷ es) e p q = (p .0, proper-more n es e (p .1) q)
+use Rattle.schedule.specs.Meaning.Laws.{refuse-unrefused, judged-unrefused, unless-ind, unless-unrefused}
+use Rattle.schedule.specs.Walk.Laws.{Unrefused, repeat-ind}
 
 -- ---- the events of lines are proper
 base-of : (n b : ℕ) → isBase n b ≡ true → BaseOf n b
@@ -74,14 +64,14 @@ continues-more begin st e next p T = record {
 }
 
 event-continues : (begin st : Progress) (e : Event) (next : ℕ)
-    → Proper (st .n) e → Continues begin st → Unrefused (Continues begin) (eventStep scheduled e next st)
+    → Proper (st .n) e → Continues begin st → Unrefused scheduled (Continues begin) (eventStep scheduled e next st)
 unfolding eventStep
 event-continues begin st e next p T =
-    judged-owes (Continues begin) (eventRefusal (st .faulty) (st .net) e)
+    judged-unrefused (Continues begin) (eventRefusal (st .faulty) (st .net) e)
     st (withNet (happens (st .faulty) (st .net) e) (onward next st)) (λ _ _. continues-more begin st e next p T)
 
 line-continues : (s : List ℕ) (begin st : Progress) (p : ℕ) (x : Line)
-    → EventTold (st .n) s p x → Continues begin st → Unrefused (Continues begin) (lineStep scheduled s x st)
+    → EventTold (st .n) s p x → Continues begin st → Unrefused scheduled (Continues begin) (lineStep scheduled s x st)
 unfolding lineStep
 line-continues s begin st p (Start b next) told T =
     event-continues begin st (starts b outputRoom) next (proper-start (st .n) b outputRoom (told .0)) T
@@ -90,20 +80,20 @@ line-continues s begin st p (Carry a b k next) told T =
 line-continues s begin st p (Forge a b at count next) told T =
     event-continues begin st (forge a b (hexBytes count (drop at s)) outputRoom)
     next (proper-forge (st .n) a b count outputRoom (drop at s) (told .0)) T
-line-continues s begin st p Wrong told T = refuse-owes (Continues begin) 13 st (λ e. omega arith)
+line-continues s begin st p Wrong told T = refuse-unrefused (Continues begin) 13 st (λ e. omega arith)
 
 pub next-continues : (s : List ℕ) (begin st : Progress)
-    → Unrefused (Continues begin) st → Unrefused (Continues begin) (nextLine scheduled s st)
+    → Unrefused scheduled (Continues begin) st → Unrefused scheduled (Continues begin) (nextLine scheduled s st)
 unfolding nextLine
 next-continues s begin st before =
-    unless-owes (Continues begin) st _ (λ none.
-    choose-ind (Unrefused (Continues begin)) (leb (length s) (st .at)) (λ _. before)
+    unless-unrefused (Continues begin) st _ (λ none.
+    choose-ind (Unrefused scheduled (Continues begin)) (leb (length s) (st .at)) (λ _. before)
     (λ _. line-continues s begin st (st .at) (eventLine (st .n) s (st .at)) (event-told (st .n) s (st .at)) (before none)))
 
 -- ---- many lines
-pub lines-continue : (s : List ℕ) (begin : Progress) (k : ℕ) → Unrefused (Continues begin) (repeat k (nextLine scheduled s) begin)
+pub lines-continue : (s : List ℕ) (begin : Progress) (k : ℕ) → Unrefused scheduled (Continues begin) (repeat k (nextLine scheduled s) begin)
 lines-continue s begin k =
-    repeat-ind (Unrefused (Continues begin))
+    repeat-ind (Unrefused scheduled (Continues begin))
     (nextLine scheduled s) (λ st p. next-continues s begin st p) k begin (λ _. continues-none begin)
 
 -- a line that is turned down stays so
@@ -117,7 +107,7 @@ lines-unrefused s begin k =
     (nextLine scheduled s) (λ st before e. before (next-unrefused s st e)) k begin (λ e. e)
 
 -- ---- the whole schedule
-pub whole-continues : (s : List ℕ) → Unrefused (Continues (header s)) (wholeSchedule s)
+pub whole-continues : (s : List ℕ) → Unrefused scheduled (Continues (header s)) (wholeSchedule s)
 unfolding linesWalk
 whole-continues s = lines-continue s (header s) (length s)
 

@@ -1,12 +1,11 @@
 -- Laws of steps: what a step that is not turned down tells, and a step that does nothing more.
-use Prim.Native.Nat.{ℕ, zero, suc, _≤_}
-use mathlib.Core.Path.{_≡_, refl, sym, ap, _∙_}
-use mathlib.Core.Bool.{Bool, true, false}
-use native.Mathlib.Omega.{arith}
+use Prim.Native.Nat.{ℕ}
+use mathlib.Core.Path.{_≡_}
 use borrow.Author.Tests.{eqb-true, eqb-false}
 use lib.Dec.{eqb}
 use Rattle.lists.specs.Choice.Laws.{choose-ind}
 use Rattle.schedule.specs.Walk.{judged, unlessRefused}
+use Rattle.schedule.specs.Walk.Laws.{Unrefused}
 use Rattle.schedule.specs.Meaning.{Progress, refuse, scheduled}
 
 -- ---- a line that is not turned down
@@ -21,18 +20,14 @@ unfolding unlessRefused
 unless-ind P st next on off =
     choose-ind P (eqb (st .refusal) 0) (λ e. on (eqb-true (st .refusal) 0 e)) (λ e. off (eqb-false (st .refusal) 0 e))
 
--- a fact that is owed only where no line is turned down
-abbrev pub Unrefused : (Progress → Type 0) → Progress → Type 0
-Unrefused P st = st .refusal ≡ 0 → P st
-
-pub refuse-owes : (P : Progress → Type 0) (r : ℕ) (st : Progress) → (r ≡ 0 → ⊥) → Unrefused P (refuse r st)
+pub refuse-unrefused : (P : Progress → Type 0) (r : ℕ) (st : Progress) → (r ≡ 0 → ⊥) → Unrefused scheduled P (refuse r st)
 unfolding refuse
-refuse-owes P r st n e = absurd (n e)
+refuse-unrefused P r st n e = absurd (n e)
 
-pub judged-owes : (P : Progress → Type 0) (r : ℕ) (before after : Progress)
-    → (r ≡ 0 → Unrefused P after) → Unrefused P (judged scheduled r before after)
-judged-owes P r before after on = judged-ind (Unrefused P) r before after on (λ n. refuse-owes P r before n)
+pub judged-unrefused : (P : Progress → Type 0) (r : ℕ) (before after : Progress)
+    → (r ≡ 0 → Unrefused scheduled P after) → Unrefused scheduled P (judged scheduled r before after)
+judged-unrefused P r before after on = judged-ind (Unrefused scheduled P) r before after on (λ n. refuse-unrefused P r before n)
 
-pub unless-owes : (P : Progress → Type 0) (st next : Progress)
-    → (st .refusal ≡ 0 → Unrefused P next) → Unrefused P (unlessRefused scheduled st next)
-unless-owes P st next on = unless-ind (Unrefused P) st next on (λ n e. absurd (n e))
+pub unless-unrefused : (P : Progress → Type 0) (st next : Progress)
+    → (st .refusal ≡ 0 → Unrefused scheduled P next) → Unrefused scheduled P (unlessRefused scheduled st next)
+unless-unrefused P st next on = unless-ind (Unrefused scheduled P) st next on (λ n e. absurd (n e))

@@ -16,7 +16,8 @@ use Rattle.lines.specs.Lines.Told.{EventTold, event-told}
 use Rattle.protocol.specs.Net.{Event, starts, carry, forge, eventRefusal, happens}
 use Rattle.schedule.specs.Walk.{linesWalk, eventStep, lineStep, nextLine, repeat}
 use Rattle.schedule.specs.Meaning.{Progress, onward, withNet, wholeSchedule, header, scheduled}
-use Rattle.schedule.specs.Meaning.Laws.{Unrefused, refuse-owes, judged-owes, unless-owes}
+use Rattle.schedule.specs.Walk.Laws.{Unrefused}
+use Rattle.schedule.specs.Meaning.Laws.{refuse-unrefused, judged-unrefused, unless-unrefused}
 
 -- the next line begins at k or further on, or the text is at its end
 abbrev Reaches : List ℕ → ℕ → Progress → Type 0
@@ -28,38 +29,40 @@ unfolding withNet onward
 there s k st e next h = inl h
 
 event-reaches : (s : List ℕ) (k : ℕ) (st : Progress) (e : Event) (next : ℕ)
-    → suc k ≤ next → Unrefused (Reaches s (suc k)) (eventStep scheduled e next st)
+    → suc k ≤ next → Unrefused scheduled (Reaches s (suc k)) (eventStep scheduled e next st)
 unfolding eventStep
 event-reaches s k st e next h =
-    judged-owes (Reaches s (suc k)) (eventRefusal (st .faulty) (st .net) e)
+    judged-unrefused (Reaches s (suc k)) (eventRefusal (st .faulty) (st .net) e)
     st (withNet (happens (st .faulty) (st .net) e) (onward next st)) (λ _ _. there s k st e next h)
 
 line-reaches : (s : List ℕ) (k : ℕ) (st : Progress) (x : Line)
-    → k ≤ st .at → EventTold (st .n) s (st .at) x → Unrefused (Reaches s (suc k)) (lineStep scheduled s x st)
+    → k ≤ st .at → EventTold (st .n) s (st .at) x → Unrefused scheduled (Reaches s (suc k)) (lineStep scheduled s x st)
 unfolding lineStep
 line-reaches s k st (Start b next) h told = event-reaches s k st (starts b outputRoom) next (omega (arith, told .1))
 line-reaches s k st (Carry a b j next) h told = event-reaches s k st (carry a b j outputRoom) next (omega (arith, told .1 .1))
 line-reaches s k st (Forge a b at count next) h told =
     event-reaches s k st (forge a b (hexBytes count (drop at s)) outputRoom) next (omega (arith, told .1 .1 .1))
-line-reaches s k st Wrong h told = refuse-owes (Reaches s (suc k)) 13 st (λ e. omega arith)
+line-reaches s k st Wrong h told = refuse-unrefused (Reaches s (suc k)) 13 st (λ e. omega arith)
 
-next-reaches : (s : List ℕ) (k : ℕ) (st : Progress) → Unrefused (Reaches s k) st → Unrefused (Reaches s (suc k)) (nextLine scheduled s st)
+next-reaches : (s : List ℕ) (k : ℕ) (st : Progress) → Unrefused scheduled (Reaches s k) st
+    → Unrefused scheduled (Reaches s (suc k)) (nextLine scheduled s st)
 unfolding nextLine
 next-reaches s k st before =
-    unless-owes (Reaches s (suc k)) st _ (λ none.
-    choose-ind (Unrefused (Reaches s (suc k))) (leb (length s) (st .at)) (λ e _. inr (leb-true (length s) (st .at) e))
+    unless-unrefused (Reaches s (suc k)) st _ (λ none.
+    choose-ind (Unrefused scheduled (Reaches s (suc k))) (leb (length s) (st .at)) (λ e _. inr (leb-true (length s) (st .at) e))
     (λ e. go (before none) (leb-false (length s) (st .at) e)))
   where
-    go : Reaches s k st → st .at < length s → Unrefused (Reaches s (suc k)) (lineStep scheduled s (eventLine (st .n) s (st .at)) st)
+    go : Reaches s k st → st .at < length s
+        → Unrefused scheduled (Reaches s (suc k)) (lineStep scheduled s (eventLine (st .n) s (st .at)) st)
     go (inl h) l = line-reaches s k st (eventLine (st .n) s (st .at)) h (event-told (st .n) s (st .at))
     go (inr h) l = absurd (omega arith)
 
-repeat-reaches : (s : List ℕ) (k : ℕ) (st : Progress) → Unrefused (Reaches s k) (repeat k (nextLine scheduled s) st)
+repeat-reaches : (s : List ℕ) (k : ℕ) (st : Progress) → Unrefused scheduled (Reaches s k) (repeat k (nextLine scheduled s) st)
 unfolding repeat
 repeat-reaches s zero st = λ _. inl (omega arith)
 repeat-reaches s (suc k) st = next-reaches s k (repeat k (nextLine scheduled s) st) (repeat-reaches s k st)
 
-pub whole-read : (s : List ℕ) → Unrefused (λ st. length s ≤ st .at) (wholeSchedule s)
+pub whole-read : (s : List ℕ) → Unrefused scheduled (λ st. length s ≤ st .at) (wholeSchedule s)
 unfolding linesWalk
 whole-read s e = go (repeat-reaches s (length s) (header s) e)
   where

@@ -6,8 +6,8 @@ use mathlib.Core.Logic.{_⊎_, inl, inr}
 use mathlib.Core.Bool.{Bool, true, false}
 use mathlib.Core.List.{List, [], _∷_}
 use native.Mathlib.Omega.{arith}
-use borrow.Author.Tests.{eqb-true, eqb-false, ne-eqb}
-use lib.Dec.{eqb}
+use borrow.Author.Tests.{eqb-true, eqb-false, ne-eqb, leb-true, leb-false}
+use lib.Dec.{eqb, leb}
 use Rattle.lists.specs.Choice.{and}
 use Rattle.lists.specs.Choice.Laws.{choose-yes, choose-no, or-false, and-both, clash}
 use Rattle.lists.specs.Lists.{sort}
@@ -43,6 +43,10 @@ not-started faulty W (e ∷ es) b h =
     let p = or-false (and (eqb (at e) b) (eqb (refusal faulty W e) 0)) (started faulty (happens faulty W e) es b) h in
     not-started faulty (happens faulty W e) es b (p .1) ∙ event-elsewhere faulty W e b (p .0)
 
+state-high : {state : ℕ} → (state ≡ 2) ⊎ (state ≡ 3) → 2 ≤ state
+state-high (inl e) = omega arith
+state-high (inr e) = omega arith
+
 module _ (n t : ℕ) (faulty : List Pair) (W : Net) (S : Setting n t faulty) (F : Fresh n t W) (es : List Event) (p : AllProper n es) where
   abbrev end : Net
   end = run faulty W es
@@ -67,6 +71,15 @@ module _ (n t : ℕ) (faulty : List Pair) (W : Net) (S : Setting n t faulty) (F 
   pub stopped-by : (b : ℕ) → BaseOf n b → 2 ≤ end .base b .state → hasStopped end b ≡ true
   stopped-by b B h = orderly n t faulty W es S F p .stops b B .1 (prime-or-secondary (end .base b .state) h (state-most b B))
 
+  pub stops-by : (b : ℕ) → BaseOf n b → hasStopped end b ≡ leb 2 (end .base b .state)
+  stops-by b B = cases (leb 2 (end .base b .state)) refl (hasStopped end b) refl
+    where
+      cases : (x : Bool) → leb 2 (end .base b .state) ≡ x → (y : Bool) → hasStopped end b ≡ y → y ≡ x
+      cases true e y f = sym f ∙ stopped-by b B (leb-true 2 (end .base b .state) e)
+      cases false e false f = refl
+      cases false e true f =
+          absurd (omega (arith, leb-false 2 (end .base b .state) e, state-high (agreement n t faulty W es S F p .state b B f)))
+
   pub final-by : (b : ℕ) → BaseOf n b → 2 ≤ end .base b .state → finalList (end .base b) ≡ sort (trueIdentifiers n W)
   final-by b B h = agreement n t faulty W es S F p .final b B (stopped-by b B h)
 
@@ -76,8 +89,5 @@ module _ (n t : ℕ) (faulty : List Pair) (W : Net) (S : Setting n t faulty) (F 
 
   pub ends-by : waiting n faulty end ≡ 0 → ((b : ℕ) → BaseOf n b → 1 ≤ end .base b .state) → (b : ℕ) → BaseOf n b → 2 ≤ end .base b .state
   ends-by none all b B =
-      go (agreement n t faulty W es S F p .state b B (agreement n t faulty W es S F p .ends (λ a A. started-by a A (all a A)) none b B))
-    where
-      go : (end .base b .state ≡ 2) ⊎ (end .base b .state ≡ 3) → 2 ≤ end .base b .state
-      go (inl e) = omega arith
-      go (inr e) = omega arith
+      let A = agreement n t faulty W es S F p in
+      state-high (A .state b B (A .ends (λ a C. started-by a C (all a C)) none b B))

@@ -6,13 +6,13 @@ use mathlib.Core.Logic.{_≢_}
 use mathlib.Core.Bool.{Bool, true, false}
 use mathlib.Core.List.{List, [], _∷_, _++_, append-cancel-left}
 use native.Mathlib.Omega.{arith}
-use borrow.Author.Tests.{eqb-true, eqb-false, eq-eqb}
-use lib.Dec.{eqb, ltb}
+use borrow.Author.Tests.{eqb-true, eqb-false, eq-eqb, le-leb, lt-leb}
+use lib.Dec.{eqb, ltb, leb}
 use lib.ListN.{length, getD, length-append}
 use Rattle.lists.specs.Choice.{choose}
 use Rattle.lists.specs.Choice.Laws.{choose-ind, choose-yes, choose-no}
 use Rattle.print.specs.Decimal.{mostDigits, lastDigits, decimalText}
-use Rattle.protocol.specs.Net.{Net, waiting}
+use Rattle.protocol.specs.Net.{Net, Pair, hasStopped, waiting}
 use Rattle.protocol.specs.Agreement.{BaseOf}
 use Rattle.schedule.specs.Meaning.{header, meaning}
 use Rattle.schedule.specs.Report.{
@@ -35,10 +35,10 @@ use Rattle.schedule.specs.Theorem.{
   rosterText,
   ofBase,
   SaysOf,
-  idle,
-  running,
-  prime,
-  secondary,
+  saysIdle,
+  saysRunning,
+  saysPrime,
+  saysSecondary,
   ofWaiting,
   Reports,
   ReportAgrees,
@@ -71,12 +71,27 @@ unfolding ofBase
 of-base b x y = append-cancel-left (baseText ++ decimalText b) x y
 
 -- ---- the state behind a line
-says-state : (b state : ℕ) (ids line : List ℕ) → line ≡ ofBase b (agreedText state ids) → SaysOf b ids line
-unfolding agreedText
-says-state b state ids line =
-    choose-ind (λ (x : List ℕ). line ≡ ofBase b x → SaysOf b ids line) (eqb state 0) (λ _ e. idle e)
-    (λ _. choose-ind (λ (x : List ℕ). line ≡ ofBase b x → SaysOf b ids line) (eqb state 1) (λ _ e. running e)
-    (λ _. choose-ind (λ (x : List ℕ). line ≡ ofBase b x → SaysOf b ids line) (eqb state 2) (λ _ e. prime e) (λ _ e. secondary e)))
+module _ (W : Net) (b : ℕ) (ids line : List ℕ) (most : W .base b .state ≤ 3) (stops : hasStopped W b ≡ leb 2 (W .base b .state)) where
+  abbrev state : ℕ
+  state = W .base b .state
+
+  running-still : state ≤ 1 → hasStopped W b ≡ false
+  running-still h = stops ∙ lt-leb 2 state (omega (arith, h))
+
+  stopped-now : 2 ≤ state → hasStopped W b ≡ true
+  stopped-now h = stops ∙ le-leb 2 state h
+
+  says-state : line ≡ ofBase b (agreedText state ids) → SaysOf W b ids line
+  unfolding agreedText
+  says-state =
+      choose-ind (λ (x : List ℕ). line ≡ ofBase b x → SaysOf W b ids line) (eqb state 0)
+      (λ z. let is = eqb-true state 0 z in saysIdle (running-still (omega (arith, is))) is)
+      (λ z. choose-ind (λ (x : List ℕ). line ≡ ofBase b x → SaysOf W b ids line) (eqb state 1)
+      (λ o. let is = eqb-true state 1 o in saysRunning (running-still (omega (arith, is))) is)
+      (λ o. choose-ind (λ (x : List ℕ). line ≡ ofBase b x → SaysOf W b ids line) (eqb state 2)
+      (λ p. let is = eqb-true state 2 p in saysPrime (stopped-now (omega (arith, is))) is)
+      (λ p. let is : state ≡ 3 = omega (arith, most, eqb-false state 0 z, eqb-false state 1 o, eqb-false state 2 p) in
+      saysSecondary (stopped-now (omega (arith, is))) is)))
 
 idle-text : (state : ℕ) (ids : List ℕ) → state ≡ 0 → agreedText state ids ≡ idleText
 unfolding agreedText
@@ -110,27 +125,27 @@ module _ (s : List ℕ) (e : meaning s .refusal ≡ 0) where
   abbrev W : Net
   W = meaning s .net
 
-  abbrev count : ℕ
-  count = waiting n (meaning s .faulty) W
+  abbrev left : ℕ
+  left = waiting n (meaning s .faulty) W
 
-  report-is : report s ≡ baseLines n W ++ waitingLine count
+  report-is : report s ≡ baseLines n W ++ waitingLine left
   unfolding report reportOf
   report-is = choose-yes _ _ (eq-eqb (meaning s .refusal) 0 e)
 
-  A : StatesAgree s
+  A : StatesAgree s (meaning s)
   A = states-agree s e
 
-  base-line : (b : ℕ) → BaseOf n b → lineOf (baseLines n W ++ waitingLine count) b ≡ ofBase b (agreedText (W .base b .state) (givenIds s))
-  base-line b B = base-at n W count b B ∙ ap (ofBase b) (A .text b B)
+  base-line : (b : ℕ) → BaseOf n b → lineOf (baseLines n W ++ waitingLine left) b ≡ ofBase b (agreedText (W .base b .state) (givenIds s))
+  base-line b B = base-at n W left b B ∙ ap (ofBase b) (A .text b B)
 
-  says-ends : lineOf (baseLines n W ++ waitingLine count) (suc n) ≡ ofWaiting 0
-      → ((b : ℕ) → BaseOf n b → lineOf (baseLines n W ++ waitingLine count) b ≢ ofBase b idleText)
-      → (b : ℕ) → BaseOf n b → lineOf (baseLines n W ++ waitingLine count) b ≢ ofBase b runningText
+  says-ends : lineOf (baseLines n W ++ waitingLine left) (suc n) ≡ ofWaiting 0
+      → ((b : ℕ) → BaseOf n b → lineOf (baseLines n W ++ waitingLine left) b ≢ ofBase b idleText)
+      → (b : ℕ) → BaseOf n b → lineOf (baseLines n W ++ waitingLine left) b ≢ ofBase b runningText
   says-ends none started b B r =
       stopped-text (W .base b .state) (givenIds s) (A .ends waits (λ a C. runs a C) b B) (of-base b _ _ (sym (base-line b B) ∙ r))
     where
-      waits : count ≡ 0
-      waits = waiting-zero count (sym (waiting-at n W count) ∙ none)
+      waits : left ≡ 0
+      waits = waiting-zero left (sym (waiting-at n W left) ∙ none)
 
       runs : (a : ℕ) → BaseOf n a → 1 ≤ W .base a .state
       runs a C = cases (eqb (W .base a .state) 0) refl
@@ -140,16 +155,17 @@ module _ (s : List ℕ) (e : meaning s .refusal ≡ 0) where
               (started a C (base-line a C ∙ ap (ofBase a) (idle-text (W .base a .state) (givenIds s) (eqb-true (W .base a .state) 0 q))))
           cases false q = omega (arith, eqb-false (W .base a .state) 0 q)
 
-  says-whole : Reports n (givenIds s) (baseLines n W ++ waitingLine count)
+  says-whole : Reports n (meaning s .faulty) W (givenIds s) (baseLines n W ++ waitingLine left)
   says-whole = record {
-    lines = lines-counted n W count;
-    bases = λ b B. says-state b (W .base b .state) (givenIds s) _ (base-line b B);
-    waits = record { count = count; says = waiting-at n W count };
+    lines = lines-counted n W left;
+    bases = λ b B. says-state W b (givenIds s) _ (A .states b B) (A .stops b B) (base-line b B);
+    waits = waiting-at n W left;
     ends = says-ends;
   }
 
 pub report-agrees : ReportAgrees
 report-agrees s never =
     let e = unrefused s never in
-    subst (λ (k : ℕ). Reports k (givenIds s) (report s)) (states-agree s e .bases)
-    (subst (Reports (meaning s .n) (givenIds s)) (sym (report-is s e)) (says-whole s e))
+    subst (λ (k : ℕ). Reports k (header s .faulty) (meaning s .net) (givenIds s) (report s)) (states-agree s e .bases)
+    (subst (λ (f : List Pair). Reports (meaning s .n) f (meaning s .net) (givenIds s) (report s)) (states-agree s e .faulty)
+    (subst (Reports (meaning s .n) (meaning s .faulty) (meaning s .net) (givenIds s)) (sym (report-is s e)) (says-whole s e)))

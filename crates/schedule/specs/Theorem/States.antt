@@ -6,21 +6,21 @@ use mathlib.Core.Bool.{Bool, true, false}
 use mathlib.Core.List.{List, _++_}
 use native.Mathlib.Omega.{arith}
 use borrow.Author.Tests.{eqb-false}
-use lib.Dec.{eqb}
+use lib.Dec.{eqb, leb}
 use Rattle.lists.specs.Choice.{choose}
 use Rattle.lists.specs.Lists.{sort}
 use Rattle.print.specs.Decimal.{decimalText}
 use Rattle.protocol.specs.declared.Base.{Base}
 use Rattle.protocol.specs.Record.{finalList}
 use Rattle.protocol.specs.Steps.{leaderOf}
-use Rattle.protocol.specs.Net.{Net, Pair, run, waiting}
+use Rattle.protocol.specs.Net.{Net, Pair, run, hasStopped, waiting}
 use Rattle.protocol.specs.Agreement.{BaseOf, trueIdentifiers}
 use Rattle.schedule.specs.Meaning.{Progress, wholeSchedule, header, meaning}
 use Rattle.schedule.specs.Meaning.Begins.{Whole, header-begins, begins-setting, begins-fresh}
 use Rattle.schedule.specs.Meaning.Continues.{Continues, whole-continues, header-unrefused, meaning-whole}
 use Rattle.schedule.specs.Report.{idleText, runningText, primeText, secondaryText, listText, leaderText, finalText, stateText}
 use Rattle.schedule.specs.Theorem.{givenIds, rosterText}
-use Rattle.schedule.specs.Theorem.Histories.{state-most, final-by, leader-by, ends-by}
+use Rattle.schedule.specs.Theorem.Histories.{state-most, stops-by, final-by, leader-by, ends-by}
 
 -- what a base prints, by its state alone
 unfoldable pub agreedText : ℕ → List ℕ → List ℕ
@@ -30,17 +30,21 @@ agreedText state ids =
     (choose (eqb state 2) (primeText ++ rosterText ids)
     (secondaryText ++ rosterText ids)))
 
-pub record StatesAgree (s : List ℕ) : Type 0 where
-  -- the bases of the report are those of the header
-  pub bases : meaning s .n ≡ header s .n
+-- what is said of a schedule s that leaves st
+pub record StatesAgree (s : List ℕ) (st : Progress) : Type 0 where
+  -- the bases and the faulty links of the report are those of the header
+  pub bases : st .n ≡ header s .n
+  pub faulty : st .faulty ≡ header s .faulty
   -- every base prints its state, and one that has stopped prints the roster that all others print
-  pub text : (b : ℕ) → BaseOf (meaning s .n) b
-      → stateText (meaning s .net .base b) ≡ agreedText (meaning s .net .base b .state) (givenIds s)
-  pub states : (b : ℕ) → BaseOf (meaning s .n) b → meaning s .net .base b .state ≤ 3
+  pub text : (b : ℕ) → BaseOf (st .n) b
+      → stateText (st .net .base b) ≡ agreedText (st .net .base b .state) (givenIds s)
+  pub states : (b : ℕ) → BaseOf (st .n) b → st .net .base b .state ≤ 3
+  -- the state says whether a base has stopped
+  pub stops : (b : ℕ) → BaseOf (st .n) b → hasStopped (st .net) b ≡ leb 2 (st .net .base b .state)
   -- `waiting 0`, and no base idle: every base has stopped
-  pub ends : waiting (meaning s .n) (meaning s .faulty) (meaning s .net) ≡ 0
-      → ((b : ℕ) → BaseOf (meaning s .n) b → 1 ≤ meaning s .net .base b .state)
-      → (b : ℕ) → BaseOf (meaning s .n) b → 2 ≤ meaning s .net .base b .state
+  pub ends : waiting (st .n) (st .faulty) (st .net) ≡ 0
+      → ((b : ℕ) → BaseOf (st .n) b → 1 ≤ st .net .base b .state)
+      → (b : ℕ) → BaseOf (st .n) b → 2 ≤ st .net .base b .state
 
 -- ---- the text of a base
 choose-same : {A : Type 0} (t : Bool) {a b c d : A} → (t ≡ true → a ≡ c) → (t ≡ false → b ≡ d) → choose t a b ≡ choose t c d
@@ -88,6 +92,12 @@ module _ (begin : Progress) (B : Whole begin) (st : Progress) (T : Continues beg
       (state-most (begin .n) (begin .t)
       (begin .faulty) (begin .net) (begins-setting begin B) (begins-fresh begin B) (T .events) (T .proper) b (base-of b C))
 
+  told-stops : (b : ℕ) → BaseOf (st .n) b → hasStopped (st .net) b ≡ leb 2 (st .net .base b .state)
+  told-stops b C =
+      of-net (λ (W : Net). hasStopped W b ≡ leb 2 (W .base b .state))
+      (stops-by (begin .n) (begin .t)
+      (begin .faulty) (begin .net) (begins-setting begin B) (begins-fresh begin B) (T .events) (T .proper) b (base-of b C))
+
   told-ends : waiting (st .n) (st .faulty) (st .net) ≡ 0
       → ((b : ℕ) → BaseOf (st .n) b → 1 ≤ st .net .base b .state) → (b : ℕ) → BaseOf (st .n) b → 2 ≤ st .net .base b .state
   told-ends none all b C =
@@ -99,29 +109,21 @@ module _ (begin : Progress) (B : Whole begin) (st : Progress) (T : Continues beg
       (λ a A. all a (subst (λ (k : ℕ). BaseOf k a) (sym (T .n)) A))
 
 -- ---- the whole schedule
--- what is said of a schedule s that is read to its end
-abbrev Says : List ℕ → Progress → Type 0
-Says s st =
-    (st .n ≡ header s .n)
-    × (((b : ℕ) → BaseOf (st .n) b → stateText (st .net .base b) ≡ agreedText (st .net .base b .state) (givenIds s))
-    × (((b : ℕ) → BaseOf (st .n) b → st .net .base b .state ≤ 3)
-    × (waiting (st .n) (st .faulty) (st .net) ≡ 0
-    → ((b : ℕ) → BaseOf (st .n) b → 1 ≤ st .net .base b .state) → (b : ℕ) → BaseOf (st .n) b → 2 ≤ st .net .base b .state)))
-
-whole-says : (s : List ℕ) → wholeSchedule s .refusal ≡ 0 → Says s (wholeSchedule s)
+whole-agree : (s : List ℕ) → wholeSchedule s .refusal ≡ 0 → StatesAgree s (wholeSchedule s)
 unfolding givenIds
-whole-says s e =
+whole-agree s e =
     let B = header-begins s (header-unrefused s e) in
-    let T = whole-continues s e in (
-      T .n,
-      (
-        told-text (header s) B (wholeSchedule s) T,
-        (told-states (header s) B (wholeSchedule s) T, told-ends (header s) B (wholeSchedule s) T),
-      ),
-    )
+    let T = whole-continues s e in
+    record {
+      bases = T .n;
+      faulty = T .faulty;
+      text = told-text (header s) B (wholeSchedule s) T;
+      states = told-states (header s) B (wholeSchedule s) T;
+      stops = told-stops (header s) B (wholeSchedule s) T;
+      ends = told-ends (header s) B (wholeSchedule s) T;
+    }
 
-pub states-agree : (s : List ℕ) → meaning s .refusal ≡ 0 → StatesAgree s
+pub states-agree : (s : List ℕ) → meaning s .refusal ≡ 0 → StatesAgree s (meaning s)
 states-agree s e =
     let m = meaning-whole s e in
-    let f = subst (Says s) (sym m) (whole-says s (ap (λ (x : Progress). x .refusal) (sym m) ∙ e)) in
-    record { bases = f .0; text = f .1 .0; states = f .1 .1 .0; ends = f .1 .1 .1 }
+    subst (StatesAgree s) (sym m) (whole-agree s (ap (λ (x : Progress). x .refusal) (sym m) ∙ e))

@@ -3,7 +3,11 @@ use Prim.Native.Nat.{ℕ, zero, suc, _+_, _-_, _≤_}
 use mathlib.Core.Path.{_≡_, refl, sym, ap, _∙_}
 use native.Mathlib.Numerals.{add-one}
 use native.Mathlib.Omega.{arith}
-use Rattle.schedule.specs.Walk.{repeat}
+use Rattle.schedule.specs.Walk.{Walkable, repeat}
+
+-- ---- a fact of what a walk keeps, asked only where no line is turned down
+abbrev pub Unrefused : {Q : Type 0} → Walkable Q → (Q → Type 0) → Q → Type 0
+Unrefused K P q = K .refusal q ≡ 0 → P q
 
 -- ---- the same step again and again
 pub repeat-ind : {A : Type 0} (P : A → Type 0) (f : A → A)

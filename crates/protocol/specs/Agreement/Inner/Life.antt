@@ -21,7 +21,7 @@ use Rattle.protocol.specs.Steps.Certified.{announcedTo}
 use Rattle.protocol.specs.Steps.Life.{spentBy, spent, spent-most, start-step-paid, arrival-step-paid}
 use Rattle.protocol.specs.Agreement.Invariant.{Premises}
 use Rattle.protocol.specs.Agreement.Observers.{placeOf}
-use Rattle.protocol.specs.Agreement.Inner.{Group, groupAfter, ReachedGroup, fresh, starts, arrives}
+use Rattle.protocol.specs.Agreement.Inner.{Group, groupAfter, ReachedGroup, fresh, groupStarts, groupArrives}
 use Rattle.protocol.specs.Agreement.Inner.Moves.{called-each, member-heard}
 use Rattle.protocol.specs.Agreement.Inner.Theorem.{GroupInvariant, group-invariant}
 
@@ -44,10 +44,10 @@ idle-spent b e off =
 module _ (n t : ℕ) (faulty : ℕ → ℕ → ℕ) (id : ℕ → ℕ) (truth : List ℕ) (P : Premises n t faulty id truth) where
   log-spent : {N : Group} → ReachedGroup n t faulty id N → (x : ℕ) → x < n → spent (N .base x) ≡ length (N .log x)
   log-spent (fresh {N = N} F) = λ x l. idle-spent (N .base x) (F .member x l .refusal) (F .idle x l) ∙ ap length (sym (F .silent x l))
-  log-spent (starts {N = N} R y y-in) = called-each N y (startStep (N .base y)) (N .handed) (λ x b log. x < n → spent b ≡ length log)
+  log-spent (groupStarts {N = N} R y y-in) = called-each N y (startStep (N .base y)) (N .handed) (λ x b log. x < n → spent b ≡ length log)
       (λ l. omega (arith, start-step-paid (N .base y), log-spent R y y-in, length-append (N .log y) (startStep (N .base y) .says)))
       (λ x ne l. log-spent R x l)
-  log-spent (arrives {N = N} R x y m handed x-in y-in ne w source newly) = go (group-invariant n t faulty id truth P R) (log-spent R)
+  log-spent (groupArrives {N = N} R x y m handed x-in y-in ne w source newly) = go (group-invariant n t faulty id truth P R) (log-spent R)
     where
       go : GroupInvariant n t faulty id truth N → ((z : ℕ) → z < n → spent (N .base z) ≡ length (N .log z))
           → (z : ℕ) → z < n

@@ -16,7 +16,7 @@ use Rattle.protocol.specs.Steps.Refusals.{Heard}
 use Rattle.protocol.specs.Steps.Broadcasts.{AllValid, Spoken, start-step-spoken, arrival-step-spoken}
 use Rattle.protocol.specs.Net.{replaced}
 use Rattle.protocol.specs.Agreement.Views.{Said}
-use Rattle.protocol.specs.Agreement.Calls.{ViewInput, start, arrival, Settled, ViewCall}
+use Rattle.protocol.specs.Agreement.Calls.{ViewInput, startInput, messageInput, Settled, ViewCall}
 use Rattle.protocol.specs.Agreement.Invariant.{broadcastAt}
 use Rattle.protocol.specs.Agreement.NetSteps.{NetStep}
 use Rattle.protocol.specs.Agreement.Observers.{placeOf, view}
@@ -83,25 +83,25 @@ module _ (n t : ℕ) (y : ℕ) (y-in : y < n) (own : ℕ) (b : Base) (M : Member
     valid = subst (λ k. AllValid k (d .says)) (M .n-is) (P .valid);
   }
 
-  pub start-moves : Move n t y own start b (startStep b)
-  start-moves = move start (startStep b) (start-seen y b inside (M .refusal) settled-own) (start-step-kept b (M .sized) (M .refusal))
+  pub start-moves : Move n t y own startInput b (startStep b)
+  start-moves = move startInput (startStep b) (start-seen y b inside (M .refusal) settled-own) (start-step-kept b (M .sized) (M .refusal))
       (start-step-spoken b (M .words) (M .refusal))
 
   module _ (x : ℕ) (x-in : x < n) (ne : x ≢ y) (m : Message) (w : Valid n m) where
     heard : Heard b (placeOf y x) m
     heard = member-heard n t y y-in own b M x x-in ne m w
 
-    pub arrival-moves : Move n t y own (arrival x m) b (arrivalStep b (placeOf y x) m)
-    arrival-moves = move (arrival x m) (arrivalStep b (placeOf y x) m)
+    pub arrival-moves : Move n t y own (messageInput x m) b (arrivalStep b (placeOf y x) m)
+    arrival-moves = move (messageInput x m) (arrivalStep b (placeOf y x) m)
         (arrival-seen y b inside (M .refusal) (M .sized) settled-own x (subst (λ k. x < k) (sym (M .n-is)) x-in) ne m (heard .valid))
         (arrival-step-kept b (placeOf y x) m (M .sized) heard) (arrival-step-spoken b (placeOf y x) m (M .sized) (M .words) heard)
 
 -- ---- a step of the net
 pub move-step : (n t : ℕ) (faulty : ℕ → ℕ → ℕ) (id : ℕ → ℕ) (N : Group) (y : ℕ) → y < n
     → (i : ViewInput) (d : Done) (handed : ℕ → ℕ → ℕ → Bool) → Move n t y (id y) i (N .base y) d
-    → ((x : ℕ) (m : Message) → x < n → x ≢ y → faulty x y ≡ 0 → i ≡ arrival x m → Said m (N .log x))
+    → ((x : ℕ) (m : Message) → x < n → x ≢ y → faulty x y ≡ 0 → i ≡ messageInput x m → Said m (N .log x))
     → ((a c k : ℕ) → handed a c k ≡ true
-    → (N .handed a c k ≡ true) ⊎ ((c ≡ y) × (k < length (N .log a)) × (i ≡ arrival a (broadcastAt (N .log a) k))))
+    → (N .handed a c k ≡ true) ⊎ ((c ≡ y) × (k < length (N .log a)) × (i ≡ messageInput a (broadcastAt (N .log a) k))))
     → NetStep n t faulty id (seen N) (seen (groupAfter N y d handed))
 unfolding seen groupAfter
 move-step n t faulty id N y y-in i d handed does source newly = record {

@@ -13,13 +13,13 @@ use Rattle.protocol.specs.Steps.{Done, startStep, arrivalStep}
 use Rattle.protocol.specs.Steps.Broadcasts.{AllValid}
 use Rattle.protocol.specs.Agreement.Cases.{impossible}
 use Rattle.protocol.specs.Agreement.Views.{Said}
-use Rattle.protocol.specs.Agreement.Calls.{ViewInput, start, arrival}
+use Rattle.protocol.specs.Agreement.Calls.{ViewInput, startInput, messageInput}
 use Rattle.protocol.specs.Agreement.Invariant.{Premises, Invariant, broadcastAt}
 use Rattle.protocol.specs.Agreement.NetSteps.{NetStep}
 use Rattle.protocol.specs.Agreement.Kept.{kept}
 use Rattle.protocol.specs.Agreement.Liveness.{all-stopped}
 use Rattle.protocol.specs.Agreement.Observers.{placeOf, view}
-use Rattle.protocol.specs.Agreement.Inner.{Member, Group, groupAfter, ReachedGroup, fresh, starts, arrives, Agrees}
+use Rattle.protocol.specs.Agreement.Inner.{Member, Group, groupAfter, ReachedGroup, fresh, groupStarts, groupArrives, Agrees}
 use Rattle.protocol.specs.Agreement.Inner.Begins.{seen, invariant-begins}
 use Rattle.protocol.specs.Agreement.Inner.Moves.{called-each, Move, start-moves, arrival-moves, move-step}
 
@@ -56,36 +56,37 @@ module _ (n t : ℕ) (faulty : ℕ → ℕ → ℕ) (id : ℕ → ℕ) (truth : 
     member = F .member;
     valid = λ x m l h. absurd (List·Memᴰ·not-nil (subst (Said m) (F .silent x l) h));
   }
-  group-invariant (starts {N = N} R y y-in) = go (group-invariant R)
+  group-invariant (groupStarts {N = N} R y y-in) = go (group-invariant R)
     where
       go : GroupInvariant n t faulty id truth N → GroupInvariant n t faulty id truth (groupAfter N y (startStep (N .base y)) (N .handed))
       go S =
           let does = start-moves n t y y-in (id y) (N .base y) (S .member y y-in) (unfold seen in S .invariant .settled y y-in) in
-          let step = move-step n t faulty id N y y-in start (startStep (N .base y)) (N .handed) does
+          let step = move-step n t faulty id N y y-in startInput (startStep (N .base y)) (N .handed) does
           (λ x m l ne good e. impossible (cc)) (λ a c k h. inl h) in
-          moved N S y y-in start (startStep (N .base y)) (N .handed) does step
-  group-invariant (arrives {N = N} R x y m handed x-in y-in ne w source newly) = go (group-invariant R)
+          moved N S y y-in startInput (startStep (N .base y)) (N .handed) does step
+  group-invariant (groupArrives {N = N} R x y m handed x-in y-in ne w source newly) = go (group-invariant R)
     where
       go : GroupInvariant n t faulty id truth N
           → GroupInvariant n t faulty id truth (groupAfter N y (arrivalStep (N .base y) (placeOf y x) m) handed)
       go S =
           let does =
           arrival-moves n t y y-in (id y) (N .base y) (S .member y y-in) (unfold seen in S .invariant .settled y y-in) x x-in ne m w in
-          moved N S y y-in (arrival x m) (arrivalStep (N .base y) (placeOf y x) m) handed does
-          (move-step n t faulty id N y y-in (arrival x m) (arrivalStep (N .base y) (placeOf y x) m) handed does from now)
+          moved N S y y-in (messageInput x m) (arrivalStep (N .base y) (placeOf y x) m) handed does
+          (move-step n t faulty id N y y-in (messageInput x m) (arrivalStep (N .base y) (placeOf y x) m) handed does from now)
         where
-          from : (z : ℕ) (u : Message) → z < n → z ≢ y → faulty z y ≡ 0 → arrival x m ≡ arrival z u → Said u (N .log z)
+          from : (z : ℕ) (u : Message) → z < n → z ≢ y → faulty z y ≡ 0 → messageInput x m ≡ messageInput z u → Said u (N .log z)
           from z u l d good e = let p : x ≡ z = cc in let q : m ≡ u = cc in
               subst (λ k. Said u (N .log k)) p (subst (λ k. Said k (N .log x)) q (source (subst (λ k. faulty k y ≡ 0) (sym p) good)))
 
           now : (a c k : ℕ) → handed a c k ≡ true
-              → (N .handed a c k ≡ true) ⊎ ((c ≡ y) × (k < length (N .log a)) × (arrival x m ≡ arrival a (broadcastAt (N .log a) k)))
+              → (N .handed a c k ≡ true)
+              ⊎ ((c ≡ y) × (k < length (N .log a)) × (messageInput x m ≡ messageInput a (broadcastAt (N .log a) k)))
           now a c k h = elim (newly a c k h) [
             | inl o ↦ inl o
             | inr o ↦ inr (o .1, subst (λ z. k < length (N .log z)) (sym (o .0)) (o .2), same a k (o .0) (o .3))
           ]
             where
-              same : (a k : ℕ) → a ≡ x → broadcastAt (N .log x) k ≡ m → arrival x m ≡ arrival a (broadcastAt (N .log a) k)
+              same : (a k : ℕ) → a ≡ x → broadcastAt (N .log x) k ≡ m → messageInput x m ≡ messageInput a (broadcastAt (N .log a) k)
               same a k e f = rw (e, f)
 
   -- a base runs or has stopped after a call
@@ -110,7 +111,7 @@ module _ (n t : ℕ) (faulty : ℕ → ℕ → ℕ) (id : ℕ → ℕ) (truth : 
       agrees : Invariant n t faulty id truth (seen N) → Agrees n faulty truth N
       agrees I = record {
         states = λ x v l h. (backs x v l h .0, three x l);
-        finals = λ x v l h. (let w = backs x v l h in (sym (w .1) ∙ holds x l (w .0), holds x l (w .0)));
+        finals = λ x v l h. (let w = backs x v l h in (sym (w .1) ∙ holds-truth x l (w .0), holds-truth x l (w .0)));
         ends = λ started over x l. said x l
             (all-stopped n t faulty id truth P (seen N) I (unfold seen view in record { started = started; handed-over = over }) x l);
       }
@@ -121,8 +122,8 @@ module _ (n t : ℕ) (faulty : ℕ → ℕ → ℕ) (id : ℕ → ℕ) (truth : 
           three : (x : ℕ) → x < n → N .base x .state ≤ 3
           three x l = unfold seen view in I .sound x l .states
 
-          holds : (x : ℕ) → x < n → 2 ≤ N .base x .state → finalList (N .base x) ≡ truth
-          holds x l s = unfold seen view in I .final-true x l s
+          holds-truth : (x : ℕ) → x < n → 2 ≤ N .base x .state → finalList (N .base x) ≡ truth
+          holds-truth x l s = unfold seen view in I .final-true x l s
 
           said : (x : ℕ) → x < n → 2 ≤ seen N .base x .state → Said (correctFinal truth) (N .log x)
           said x l s = unfold seen in subst (λ v. Said (correctFinal v) (N .log x)) (I .final-true x l s) (I .stop-said x l s)

@@ -15,7 +15,7 @@ use Rattle.frame.specs.Message.{Message, announce, verify, correctFinal, verify
 use Rattle.lists.specs.Choice.Laws.{clash}
 use Rattle.protocol.specs.Agreement.Cases.{true-or-false}
 use Rattle.protocol.specs.Agreement.Views.{View, Said, ViewHolds, Certified}
-use Rattle.protocol.specs.Agreement.Calls.{arrival, Taken}
+use Rattle.protocol.specs.Agreement.Calls.{messageInput, Taken}
 use Rattle.protocol.specs.Agreement.Growth.{Delivered, delivered-grows}
 use Rattle.protocol.specs.Agreement.Invariant.{State, Invariant, broadcastAt}
 use Rattle.protocol.specs.Agreement.NetSteps.{NetStep, at-each-base, base-grows}
@@ -87,8 +87,8 @@ module _ (n t : ℕ) (faulty : ℕ → ℕ → ℕ) (id : ℕ → ℕ) (truth : 
         let e : u ≡ v = I .vote-one x u v x-in (hears (verifyFinal u) held) said in
         S .call .grows .votes x v (subst (λ w. b .vote x w ≡ true) e held)
 
-    arrives : (m : Message) → S .input ≡ arrival x m → c .state ≤ 1 → Delivered n c x m
-    arrives m e s = taken-delivered m (S .source x m x-in apart good e) (S .call .taken x m e s)
+    input-delivered : (m : Message) → S .input ≡ messageInput x m → c .state ≤ 1 → Delivered n c x m
+    input-delivered m e s = taken-delivered m (S .source x m x-in apart good e) (S .call .taken x m e s)
 
   -- ---- what was handed over before, and what is handed over now
   log-at : (x k : ℕ) → k < length (N .log x) → (k < length (M .log x)) × (broadcastAt (M .log x) k ≡ broadcastAt (N .log x) k)
@@ -100,10 +100,10 @@ module _ (n t : ℕ) (faulty : ℕ → ℕ → ℕ) (id : ℕ → ℕ) (truth : 
   grows-delivered : (x y : ℕ) (m : Message) → Delivered n (N .base y) x m → Delivered n (M .base y) x m
   grows-delivered x y m h = delivered-grows n (N .base y) (M .base y) (base-grows n t faulty id N M S y) x m h
 
-  delivered-now : (x y : ℕ) (m : Message) → x < n → x ≢ y → faulty x y ≡ 0 → y ≡ me → S .input ≡ arrival x m → M .base y .state ≤ 1
+  delivered-now : (x y : ℕ) (m : Message) → x < n → x ≢ y → faulty x y ≡ 0 → y ≡ me → S .input ≡ messageInput x m → M .base y .state ≤ 1
       → Delivered n (M .base y) x m
   delivered-now x y m lx ne good e a =
-      rw (e, S .base-here) (λ s. arrives x lx (λ p. ne (p ∙ sym e)) (subst (λ z. faulty x z ≡ 0) e good) m a s)
+      rw (e, S .base-here) (λ s. input-delivered x lx (λ p. ne (p ∙ sym e)) (subst (λ z. faulty x z ≡ 0) e good) m a s)
 
   pub delivered-kept : (x y k : ℕ) → x < n → y < n → x ≢ y → faulty x y ≡ 0 → M .handed x y k ≡ true
       → (k < length (M .log x)) × (M .base y .state ≤ 1 → Delivered n (M .base y) x (broadcastAt (M .log x) k))

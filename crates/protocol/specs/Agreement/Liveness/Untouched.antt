@@ -11,7 +11,7 @@ use native.Mathlib.Omega.{arith}
 use borrow.Author.Tests.{eq-eqb, ne-eqb}
 use lib.Dec.{eqb}
 use Rattle.lists.specs.Choice.{or}
-use Rattle.lists.specs.Choice.Laws.{or-neither, clash}
+use Rattle.lists.specs.Choice.Laws.{or-first, or-second, or-neither, clash}
 use Rattle.lists.specs.Lists.{member}
 use Rattle.counting.specs.Sums.{bit}
 use Rattle.counting.specs.Sums.Laws.{sum-term}
@@ -126,12 +126,8 @@ module _ (n t : ℕ) (faulty : ℕ → ℕ → ℕ) (id : ℕ → ℕ) (truth : 
       set x = or (eqb a x) (eqb c x)
 
       in-set : (set a ≡ true) × (set c ≡ true)
-      unfolding set or
-      in-set = (rw (eq-eqb a a refl), rw (eq-eqb c c refl) (either (eqb a c)))
-        where
-          either : (s : Bool) → or s true ≡ true
-          either true = refl
-          either false = refl
+      unfolding set
+      in-set = (or-first (eqb c a) (eq-eqb a a refl), or-second (eqb a c) (eq-eqb c c refl))
 
       -- a base whose truth p does not hold is not one of the two, and has two faulty links or a faulty link to one of the two
       missed : (x : ℕ) → x < n → x ≢ p → holdsOf (N .base p) truth x ≡ false → (set x ≡ false) × TouchedBy n faulty set x

@@ -24,16 +24,16 @@ use Rattle.protocol.specs.Record.{linkAt, certified, finalList, links}
 use Rattle.protocol.specs.Record.Memory.{Sized}
 use Rattle.protocol.specs.Sound.Laws.{count-room}
 use Rattle.protocol.specs.Sound.Running.{Runs, runs-admitted}
-use Rattle.protocol.specs.Steps.{Done, discards, accepts, withSent, withState, withFinal}
+use Rattle.protocol.specs.Steps.{discards, accepts, withSent, withState, withFinal}
 use Rattle.protocol.specs.Steps.{primeHolds, secondaryHolds, stops, primeCheck, secondaryCheck, vote}
 use Rattle.protocol.specs.Steps.Laws.{SameSetting}
 use Rattle.protocol.specs.Agreement.Views.{View, Prime, Secondary, Lists}
-use Rattle.protocol.specs.Agreement.Calls.{ViewInput, arrival, Settled, Full, Taken, before, ViewCall}
+use Rattle.protocol.specs.Agreement.Calls.{ViewInput, messageInput, Settled, Full, Taken, before, ViewCall}
 use Rattle.protocol.specs.Agreement.Growth.{grows-not}
 use Rattle.protocol.specs.Agreement.Storing.{Vector, ListOf, Stored}
 use Rattle.protocol.specs.Agreement.Accepting.{Saying, Ending, runs-on, ends-prime, ends-secondary}
 use Rattle.protocol.specs.Agreement.Accepting.{closing, closing-secondary, secondary-closing, accepted-call}
-use Rattle.protocol.specs.Agreement.Observers.{placeOf, linkFor, view}
+use Rattle.protocol.specs.Agreement.Observers.{placeOf, linkFor, view, ArrivalCall}
 use Rattle.protocol.specs.Agreement.Observers.Places.{place-inside, link-other}
 use Rattle.protocol.specs.Agreement.Observers.Counts.{Inside}
 use Rattle.protocol.specs.Agreement.Observers.Names.{named-other}
@@ -41,7 +41,7 @@ use Rattle.protocol.specs.Agreement.Observers.Checks.{secondary-seen, se
 
 -- ---- a call that changes nothing
 pub unchanged-call : (n t me own : ℕ) (i : ViewInput) (b : View) → Settled n t me b → 1 ≤ b .state
-    → ((x : ℕ) (m : Message) → i ≡ arrival x m → b .state ≤ 1 → Taken n b b x m) → ViewCall n t me own i b b []
+    → ((x : ℕ) (m : Message) → i ≡ messageInput x m → b .state ≤ 1 → Taken n b b x m) → ViewCall n t me own i b b []
 unchanged-call n t me own i b settled on taken = record {
   grows = grows-not b;
   runs = on;
@@ -123,19 +123,17 @@ module _ (me : ℕ) (b : Base) (inside : me < b .n) (R : Runs b) (S : Sized b) (
   fits : i < length (b .links)
   fits = omega (arith, below, R .standing .net .most, S .links)
 
-  abbrev CallOf : Message → Done → Type 0
-  CallOf m d = ViewCall n t me (b .own) (arrival x m) see (view me (d .base)) (d .says)
-
-  running : see .state ≡ 1
+  see-running : see .state ≡ 1
   unfolding view
-  running = R .state
+  see-running = R .state
 
   -- ---- discarded
-  pub discarded-call : (m : Message) → Taken n see see x m → CallOf m (discards b)
+  pub discarded-call : (m : Message) → Taken n see see x m → ArrivalCall me b x m (discards b)
   unfolding discards
-  discarded-call m taken = unchanged-call n t me (b .own) (arrival x m) see settled (omega (arith, running)) (λ y w e s. moved y w e)
+  discarded-call m taken =
+      unchanged-call n t me (b .own) (messageInput x m) see settled (omega (arith, see-running)) (λ y w e s. moved y w e)
     where
-      moved : (y : ℕ) (w : Message) → arrival x m ≡ arrival y w → Taken n see see y w
+      moved : (y : ℕ) (w : Message) → messageInput x m ≡ messageInput y w → Taken n see see y w
       moved y w e =
           let p : x ≡ y = cc in
           let q : m ≡ w = cc in
@@ -174,26 +172,27 @@ module _ (me : ℕ) (b : Base) (inside : me < b .n) (R : Runs b) (S : Sized b) (
     view-closing = runs-view me c (Rc .state) ∙ closes 1 (c .sent) (view me c .final)
 
     ends : {state : ℕ} {final : List ℕ} {out : List Message} → Ending n t me m (view me c₀) state final out
-        → ViewCall n t me (b .own) (arrival x m) see (closing (view me c₀) state (c .sent) final) (said ++ out)
+        → ViewCall n t me (b .own) (messageInput x m) see (closing (view me c₀) state (c .sent) final) (said ++ out)
     ends {state} {final} {out} E =
-        accepted-call n t me (b .own) x x-in m see (view me c₀) stored running settled (c .sent) state final said out T E
+        accepted-call n t me (b .own) x x-in m see (view me c₀) stored see-running settled (c .sent) state final said out T E
 
     goes-on : ((Vector m → ⊥) → Prime n t me (view me c₀) → ⊥) → ((v : List ℕ) → ListOf m v → Secondary n t (view me c₀) v → ⊥)
-        → view me c .final ≡ view me c₀ .final → CallOf m (accepts c said)
+        → view me c .final ≡ view me c₀ .final → ArrivalCall me b x m (accepts c said)
     unfolding accepts
-    goes-on not-prime not-secondary same-final = subst₂ (λ u o. ViewCall n t me (b .own) (arrival x m) see u o)
+    goes-on not-prime not-secondary same-final = subst₂ (λ u o. ViewCall n t me (b .own) (messageInput x m) see u o)
         (sym (view-closing ∙ ap (closing (view me c₀) 1 (c .sent)) same-final)) (append-nil said) (ends (runs-on not-prime not-secondary))
 
     stops-call : (state : ℕ) (v : List ℕ) → length v ≡ n → Ending n t me m (view me c₀) state v (correctFinal v ∷ [])
-        → CallOf m (stops c state v said)
+        → ArrivalCall me b x m (stops c state v said)
     stops-call state v whole E =
-        unfold stops accepts in subst (λ u. ViewCall n t me (b .own) (arrival x m) see u (said ++ (correctFinal v ∷ [])))
+        unfold stops accepts in subst (λ u. ViewCall n t me (b .own) (messageInput x m) see u (said ++ (correctFinal v ∷ [])))
         (sym (stops-view me c state v said (whole ∙ sym (same .n)) ∙ closes state (c .sent) v)) (ends E)
 
     -- "then the secondary check on V"
-    pub secondary-call : (v : List ℕ) → ListOf m v → Vector m → view me c .final ≡ view me c₀ .final → CallOf m (secondaryCheck c v said)
+    pub secondary-call : (v : List ℕ) → ListOf m v → Vector m → view me c .final ≡ view me c₀ .final
+        → ArrivalCall me b x m (secondaryCheck c v said)
     unfolding secondaryCheck
-    secondary-call v list vector same-final = choose-ind (CallOf m) (secondaryHolds c v)
+    secondary-call v list vector same-final = choose-ind (ArrivalCall me b x m) (secondaryHolds c v)
         (λ e. stops-call 3 v (valid-length n m v list w) (ends-secondary v (back v (secondary-seen me c Hc v e))))
         (λ e. goes-on (λ h. absurd (h vector))
         (λ u h P. clash (seen-secondary me c Hc v (there v (subst (Secondary n t (view me c₀)) (sym (only u h)) P))) e) same-final)
@@ -221,9 +220,9 @@ module _ (me : ℕ) (b : Base) (inside : me < b .n) (R : Runs b) (S : Sized b) (
     Hp : Inside me c
     Hp = record { net = Rc .standing .net; inside = subst (λ k. me < k) (sym (same .n)) inside }
 
-    pub prime-call : CallOf m (primeCheck c said)
+    pub prime-call : ArrivalCall me b x m (primeCheck c said)
     unfolding primeCheck
-    prime-call = choose-ind (CallOf m) (primeHolds c)
+    prime-call = choose-ind (ArrivalCall me b x m) (primeHolds c)
         (λ e. stops-call m w c c stored same Rc (λ s p f. refl) said T 2 (sort (certified c)) (whole e)
         (ends-prime (sort (certified c)) (to-net (prime-seen me c Hp (Rc .standing .own) e)) (lists e)))
         (λ e. goes-on m w c c stored same Rc (λ s p f. refl) said T (λ h P. clash (seen-prime me c Hp (from-net P)) e)

@@ -28,10 +28,10 @@ use Rattle.protocol.specs.Steps.Cases.{takesAndVotes, takesVerifyFinal, 
 use Rattle.protocol.specs.Steps.Laws.{takes-rest}
 use Rattle.protocol.specs.Agreement.Cases.{impossible}
 use Rattle.protocol.specs.Agreement.Views.{View, corrects}
-use Rattle.protocol.specs.Agreement.Calls.{arrival, Settled, Taken, ViewCall}
+use Rattle.protocol.specs.Agreement.Calls.{Settled, Taken}
 use Rattle.protocol.specs.Agreement.Storing.{Stored}
 use Rattle.protocol.specs.Agreement.Accepting.{Saying, says-name, says-vote, says-nothing}
-use Rattle.protocol.specs.Agreement.Observers.{placeOf, view}
+use Rattle.protocol.specs.Agreement.Observers.{placeOf, view, ArrivalCall}
 use Rattle.protocol.specs.Agreement.Observers.Places.{place-inside}
 use Rattle.protocol.specs.Agreement.Observers.Counts.{corrects-seen}
 use Rattle.protocol.specs.Agreement.Observers.Names.{named-other, certified-named}
@@ -68,14 +68,12 @@ module _ (me : ℕ) (b : Base) (inside : me < b .n) (R : Runs b) (S : Sized b) (
   fits : i < length (b .links)
   fits = omega (arith, below, R .standing .net .most, S .links)
 
-  abbrev CallOf : Message → Done → Type 0
-  CallOf m d = ViewCall n (b .t) me (b .own) (arrival x m) see (view me (d .base)) (d .says)
-
   -- ---- "Announce g: discarded if that link has an Announce, if g is certified, or if the link's list is full."
-  announce-call : (g : ℕ) → Valid n (announce g) → CallOf (announce g) (onAnnounce b i g)
+  announce-call : (g : ℕ) → Valid n (announce g) → ArrivalCall me b x (announce g) (onAnnounce b i g)
   unfolding onAnnounce
   announce-call g w =
-      choose-ind (CallOf (announce g)) _ (λ e. discarded-call me b inside R S settled x x-in ne (announce g) (discarded e)) accepted
+      choose-ind (ArrivalCall me b x (announce g)) _
+      (λ e. discarded-call me b inside R S settled x x-in ne (announce g) (discarded e)) accepted
     where
       discarded : or (announces link) (or (member g (certified b)) (full n link)) ≡ true → Taken n see see x (announce g)
       discarded e = elim (or-true (announces link) (or (member g (certified b)) (full n link)) e) [
@@ -87,7 +85,7 @@ module _ (me : ℕ) (b : Base) (inside : me < b .n) (R : Runs b) (S : Sized b) (
       ]
 
       accepted : or (announces link) (or (member g (certified b)) (full n link)) ≡ false
-          → CallOf (announce g) (primeCheck (withLink b i (withAnnounce link g)) (verify g ∷ []))
+          → ArrivalCall me b x (announce g) (primeCheck (withLink b i (withAnnounce link g)) (verify g ∷ []))
       accepted e =
           let p = or-false (announces link) (or (member g (certified b)) (full n link)) e in
           let q = or-false (member g (certified b)) (full n link) (p .1) in
@@ -98,10 +96,10 @@ module _ (me : ℕ) (b : Base) (inside : me < b .n) (R : Runs b) (S : Sized b) (
           (λ v h. h)
 
   -- ---- "Verify g: discarded if that link holds Verify g or is full."
-  verify-call : (g : ℕ) → Valid n (verify g) → CallOf (verify g) (onVerify b i g)
+  verify-call : (g : ℕ) → Valid n (verify g) → ArrivalCall me b x (verify g) (onVerify b i g)
   unfolding onVerify
   verify-call g w =
-      choose-ind (CallOf (verify g)) _ (λ e. discarded-call me b inside R S settled x x-in ne (verify g) (discarded e)) accepted
+      choose-ind (ArrivalCall me b x (verify g)) _ (λ e. discarded-call me b inside R S settled x x-in ne (verify g) (discarded e)) accepted
     where
       discarded : or (holdsVerify link g) (full n link) ≡ true → Taken n see see x (verify g)
       discarded e = elim (or-true (holdsVerify link g) (full n link) e) [
@@ -118,7 +116,8 @@ module _ (me : ℕ) (b : Base) (inside : me < b .n) (R : Runs b) (S : Sized b) (
         R .standing .net .most,
       )
 
-      accepted : or (holdsVerify link g) (full n link) ≡ false → CallOf (verify g) (primeCheck (withLink b i (withVerify link g)) [])
+      accepted : or (holdsVerify link g) (full n link) ≡ false
+          → ArrivalCall me b x (verify g) (primeCheck (withLink b i (withVerify link g)) [])
       accepted e =
           let p = or-false (holdsVerify link g) (full n link) e in
           let T : Takes b i (verify g) (withLink b i (withVerify link g)) [] = takesVerify g (p .0) (p .1) in
@@ -129,10 +128,10 @@ module _ (me : ℕ) (b : Base) (inside : me < b .n) (R : Runs b) (S : Sized b) (
 
   -- ---- "Correct-Final V: discarded if the link holds any Correct-Final. Else it replaces what the link holds."
   module _ (v : List ℕ) (w : Valid n (correctFinal v)) where
-    abbrev holds : Base
-    holds = holdingVector b i 3 v
+    abbrev holdingCorrect : Base
+    holdingCorrect = holdingVector b i 3 v
 
-    correct-stored : link .held ≢ 3 → Stored x (correctFinal v) see (view me holds)
+    correct-stored : link .held ≢ 3 → Stored x (correctFinal v) see (view me holdingCorrect)
     correct-stored free = changed-stored me b x ne (correctFinal v) (withVector link 3 v) fits
         (correct-changes n link v (valid-length n (correctFinal v) v refl w) free)
 
@@ -141,53 +140,59 @@ module _ (me : ℕ) (b : Base) (inside : me < b .n) (R : Runs b) (S : Sized b) (
     correct-held e =
         inr (take n (link .list), seen-correct me b x ne (take n (link .list)) ∙ held-correct n link (eqb-true (link .held) 3 e))
 
-    corrects-now : corrects n (view me holds) v ≡ correctCount holds v
+    corrects-now : corrects n (view me holdingCorrect) v ≡ correctCount holdingCorrect v
     unfolding withLink
-    corrects-now = corrects-seen me holds (record { net = R .standing .net; inside = inside }) v
+    corrects-now = corrects-seen me holdingCorrect (record { net = R .standing .net; inside = inside }) v
 
     -- "If no Verify-Final was ever sent and two or more links now hold Correct-Final V, Verify-Final V is broadcast."
-    vote-said : votes holds v ≡ true → Saying n (correctFinal v) see (view me holds) (withSent holds .sent) (verifyFinal v ∷ [])
+    vote-said : votes holdingCorrect v ≡ true
+        → Saying n (correctFinal v) see (view me holdingCorrect) (withSent holdingCorrect .sent) (verifyFinal v ∷ [])
     unfolding votes withSent
     vote-said e =
         let p = and-true _ _ e in
         says-vote v refl (unfold view withLink in eqb-true (b .sent) 0 (p .0))
-        (omega (arith, corrects-now, leb-true 2 (correctCount holds v) (p .1)))
+        (omega (arith, corrects-now, leb-true 2 (correctCount holdingCorrect v) (p .1)))
 
-    nothing-said : votes holds v ≡ false → Saying n (correctFinal v) see (view me holds) (holds .sent) []
+    nothing-said : votes holdingCorrect v ≡ false → Saying n (correctFinal v) see (view me holdingCorrect) (holdingCorrect .sent) []
     nothing-said e = unfold withLink view in says-nothing (λ k q. impossible (cc)) few
       where
-        few : (u : List ℕ) → correctFinal v ≡ correctFinal u → b .sent ≡ 0 → corrects n (view me holds) u ≤ 1
-        few u q unsent = let r : v ≡ u = cc in subst (λ z. corrects n (view me holds) z ≤ 1) r (go (leb 2 (correctCount holds v)) refl)
+        few : (u : List ℕ) → correctFinal v ≡ correctFinal u → b .sent ≡ 0 → corrects n (view me holdingCorrect) u ≤ 1
+        few u q unsent = let r : v ≡ u = cc in
+            subst (λ z. corrects n (view me holdingCorrect) z ≤ 1) r (go (leb 2 (correctCount holdingCorrect v)) refl)
           where
-            go : (t : Bool) → leb 2 (correctCount holds v) ≡ t → corrects n (view me holds) v ≤ 1
-            go true f = let both : votes holds v ≡ true = unfold votes withLink in and-both (eq-eqb (b .sent) 0 unsent) f in clash both e
-            go false f = omega (arith, corrects-now, leb-false 2 (correctCount holds v) f)
+            go : (t : Bool) → leb 2 (correctCount holdingCorrect v) ≡ t → corrects n (view me holdingCorrect) v ≤ 1
+            go true f =
+                let both : votes holdingCorrect v ≡ true = unfold votes withLink in and-both (eq-eqb (b .sent) 0 unsent) f in
+                clash both e
+            go false f = omega (arith, corrects-now, leb-false 2 (correctCount holdingCorrect v) f)
 
-    voting : link .held ≢ 3 → votes holds v ≡ true → CallOf (correctFinal v) (secondaryCheck (withSent holds) v (verifyFinal v ∷ []))
+    voting : link .held ≢ 3 → votes holdingCorrect v ≡ true
+        → ArrivalCall me b x (correctFinal v) (secondaryCheck (withSent holdingCorrect) v (verifyFinal v ∷ []))
     voting free e =
-        let T : Takes b i (correctFinal v) (withSent holds) (verifyFinal v ∷ []) = takesAndVotes v free e in
-        secondary-call me b inside R S settled x x-in ne (correctFinal v) w holds (withSent holds) (correct-stored free)
-        (takes-rest T .setting) (takes-runs R S below T w) (sent-closing me holds) (verifyFinal v ∷ []) (vote-said e) v refl tt
+        let T : Takes b i (correctFinal v) (withSent holdingCorrect) (verifyFinal v ∷ []) = takesAndVotes v free e in
+        secondary-call me b inside R S settled x x-in ne (correctFinal v) w holdingCorrect (withSent holdingCorrect) (correct-stored free)
+        (takes-rest T .setting) (takes-runs R S below T w) (sent-closing me holdingCorrect) (verifyFinal v ∷ []) (vote-said e) v refl tt
         (unfold view withSent finalList in refl)
 
-    not-voting : link .held ≢ 3 → votes holds v ≡ false → CallOf (correctFinal v) (secondaryCheck holds v [])
+    not-voting : link .held ≢ 3 → votes holdingCorrect v ≡ false → ArrivalCall me b x (correctFinal v) (secondaryCheck holdingCorrect v [])
     not-voting free e =
-        let T : Takes b i (correctFinal v) holds [] = takesCorrect v free e in
-        secondary-call me b inside R S settled x x-in ne (correctFinal v) w holds holds (correct-stored free)
+        let T : Takes b i (correctFinal v) holdingCorrect [] = takesCorrect v free e in
+        secondary-call me b inside R S settled x x-in ne (correctFinal v) w holdingCorrect holdingCorrect (correct-stored free)
         (takes-rest T .setting) (takes-runs R S below T w) (λ s p f. refl) [] (nothing-said e) v refl tt refl
 
-    correct-call : CallOf (correctFinal v) (onCorrectFinal b i v)
+    correct-call : ArrivalCall me b x (correctFinal v) (onCorrectFinal b i v)
     unfolding onCorrectFinal vote accepts
-    correct-call = choose-ind (CallOf (correctFinal v)) _
+    correct-call = choose-ind (ArrivalCall me b x (correctFinal v)) _
         (λ e. discarded-call me b inside R S settled x x-in ne (correctFinal v) (correct-held e))
-        (λ e. choose-ind (λ (d : Done). CallOf (correctFinal v) (secondaryCheck (d .base) v (d .says))) (votes holds v)
+        (λ e. choose-ind (λ (d : Done). ArrivalCall me b x (correctFinal v) (secondaryCheck (d .base) v (d .says))) (votes holdingCorrect v)
         (voting (eqb-false (link .held) 3 e)) (not-voting (eqb-false (link .held) 3 e)))
 
   -- ---- "Verify-Final V: discarded if the link holds any vector message. Else held"
-  vote-call : (v : List ℕ) → Valid n (verifyFinal v) → CallOf (verifyFinal v) (onVerifyFinal b i v)
+  vote-call : (v : List ℕ) → Valid n (verifyFinal v) → ArrivalCall me b x (verifyFinal v) (onVerifyFinal b i v)
   unfolding onVerifyFinal
   vote-call v w =
-      choose-ind (CallOf (verifyFinal v)) _ (λ e. discarded-call me b inside R S settled x x-in ne (verifyFinal v) (discarded e)) accepted
+      choose-ind (ArrivalCall me b x (verifyFinal v)) _
+      (λ e. discarded-call me b inside R S settled x x-in ne (verifyFinal v) (discarded e)) accepted
     where
       discarded : not (eqb (link .held) 0) ≡ true → Taken n see see x (verifyFinal v)
       discarded e = let some = eqb-false (link .held) 0 (not-true (eqb (link .held) 0) e) in
@@ -196,7 +201,7 @@ module _ (me : ℕ) (b : Base) (inside : me < b .n) (R : Runs b) (S : Sized b) (
             | inr k ↦ inr (inr (take n (link .list), seen-vote me b x ne (take n (link .list)) ∙ held-vote n link k))
           ]
 
-      accepted : not (eqb (link .held) 0) ≡ false → CallOf (verifyFinal v) (secondaryCheck (holdingVector b i 4 v) v [])
+      accepted : not (eqb (link .held) 0) ≡ false → ArrivalCall me b x (verifyFinal v) (secondaryCheck (holdingVector b i 4 v) v [])
       accepted e =
           let free : link .held ≡ 0 = eqb-true (link .held) 0 (not-false (eqb (link .held) 0) e) in
           let T : Takes b i (verifyFinal v) (holdingVector b i 4 v) [] = takesVerifyFinal v free in
@@ -206,7 +211,7 @@ module _ (me : ℕ) (b : Base) (inside : me < b .n) (R : Runs b) (S : Sized b) (
           (takes-rest T .setting) (takes-runs R S below T w) (λ s p f. refl) []
           (unfold withLink view in says-nothing (λ k q. impossible (cc)) (λ u q. impossible (cc))) v refl tt refl
 
-  pub message-call : (m : Message) → Valid n m → CallOf m (onMessage b i m)
+  pub message-call : (m : Message) → Valid n m → ArrivalCall me b x m (onMessage b i m)
   unfolding onMessage
   message-call (announce g) w = announce-call g w
   message-call (verify g) w = verify-call g w

@@ -7,15 +7,14 @@ use mathlib.Core.Bool.{true, false}
 use mathlib.Core.List.{List, [], _∷_}
 use native.Mathlib.Decide.{ℕ-discrete}
 use native.Mathlib.Omega.{arith}
-use borrow.Author.Tests.{eqb-true, eqb-false, leb-true, leb-false, ne-eqb}
-use lib.ListN.{take}
-use Rattle.lists.specs.Choice.{and}
+use borrow.Author.Tests.{eqb-true, eqb-false, leb-true, leb-false}
 use Rattle.lists.specs.Choice.Laws.{choose-ind, clash}
-use Rattle.lists.specs.Lists.{member, distinct, sameList}
+use Rattle.lists.specs.Lists.{distinct}
 use Rattle.frame.specs.Message.{Message, announce, verify, correctFinal, verifyFinal, Valid}
 use Rattle.protocol.specs.declared.Link.{Link}
 use Rattle.protocol.specs.declared.Base.{Base}
-use Rattle.protocol.specs.Links.{noLink, verifiesOf, holdsVerify, holdsVector, holdsCorrect, holdsVerifyFinal}
+use Rattle.protocol.specs.Links.{noLink, verifiesOf, holdsVector, holdsCorrect, holdsVerifyFinal}
+use Rattle.protocol.specs.Links.Laws.{no-verify, no-vector}
 use Rattle.protocol.specs.Record.{linkAt, finalList}
 use Rattle.protocol.specs.Record.Memory.{Sized}
 use Rattle.protocol.specs.Sound.{idle, stopped, recordRefusal}
@@ -27,25 +26,16 @@ use Rattle.protocol.specs.Steps.Cases.{begun, afterStart, start-step-cas
 use Rattle.protocol.specs.Steps.Memory.{begun-sized}
 use Rattle.protocol.specs.Agreement.Cases.{impossible}
 use Rattle.protocol.specs.Agreement.Views.{ViewHolds}
-use Rattle.protocol.specs.Agreement.Calls.{start, arrival, SoundView, Settled, ViewCall}
+use Rattle.protocol.specs.Agreement.Calls.{startInput, messageInput, SoundView, Settled, ViewCall}
 use Rattle.protocol.specs.Agreement.Accepting.{closing}
 use Rattle.protocol.specs.Agreement.Starting.{BlankView, startedView, begins-call, start-then-call}
-use Rattle.protocol.specs.Agreement.Observers.{placeOf, linkFor, view}
+use Rattle.protocol.specs.Agreement.Observers.{placeOf, linkFor, view, ArrivalCall}
 use Rattle.protocol.specs.Agreement.Observers.Places.{place-inside, link-own, link-other}
 use Rattle.protocol.specs.Agreement.Observers.Counts.{Inside}
 use Rattle.protocol.specs.Agreement.Observers.Names.{named-own, named-other, names-apart}
 use Rattle.protocol.specs.Agreement.Observers.Stores.{seen-verify, seen-correct, seen-vote}
 use Rattle.protocol.specs.Agreement.Observers.Endings.{unchanged-call}
 use Rattle.protocol.specs.Agreement.Observers.Messages.{message-call}
-
--- no message is held on a link that holds nothing
-none-held : (n kind : ℕ) (l : Link) (v : List ℕ) → l .held ≢ kind → holdsVector n kind l v ≡ false
-unfolding holdsVector and
-none-held n kind l v ne = ap (λ t. and t (sameList (take n (l .list)) v)) (ne-eqb (l .held) kind ne)
-
-none-verified : (l : Link) (g : ℕ) → l .«verify_count» ≡ 0 → holdsVerify l g ≡ false
-unfolding holdsVerify verifiesOf member
-none-verified l g e = ap (λ k. member g (take k (l .verifies))) e
 
 module _ (me : ℕ) (b : Base) (inside : me < b .n) (e : recordRefusal b ≡ 0) where
   A : Admitted b
@@ -70,11 +60,11 @@ module _ (me : ℕ) (b : Base) (inside : me < b .n) (e : recordRefusal b ≡ 0) 
     where
       own-correct : (v : List ℕ) → view me b .correct me v ≡ false
       own-correct v = unfold view holdsCorrect in ap (λ (l : Link). holdsVector (b .n) 3 l v) (link-own me b)
-          ∙ none-held (b .n) 3 noLink v (omega arith)
+          ∙ no-vector (b .n) 3 noLink v (omega arith)
 
       own-vote : (v : List ℕ) → view me b .vote me v ≡ false
       own-vote v = unfold view holdsVerifyFinal in ap (λ (l : Link). holdsVector (b .n) 4 l v) (link-own me b)
-          ∙ none-held (b .n) 4 noLink v (omega arith)
+          ∙ no-vector (b .n) 4 noLink v (omega arith)
 
       once : (x : ℕ) → x < b .n → distinct (view me b .verifies x) ≡ true
       once x l = unfold view in elim (ℕ-discrete x me) [
@@ -100,11 +90,11 @@ module _ (me : ℕ) (b : Base) (inside : me < b .n) (e : recordRefusal b ≡ 0) 
       nothing : (x : ℕ) (m : Message) → x < b .n → x ≢ me → ViewHolds (view me b) x m → ⊥
       nothing x (announce g) l ne h = omega (arith, h .0, h .1, named-other me b x ne, empty x l ne .announce)
       nothing x (verify g) l ne h =
-          clash (sym (seen-verify me b x ne g) ∙ h) (none-verified (linkAt b (placeOf me x)) g (empty x l ne .count))
+          clash (sym (seen-verify me b x ne g) ∙ h) (no-verify (linkAt b (placeOf me x)) g (empty x l ne .count))
       nothing x (correctFinal v) l ne h = clash (sym (seen-correct me b x ne v) ∙ h)
-          (unfold holdsCorrect in none-held (b .n) 3 (linkAt b (placeOf me x)) v (omega (arith, empty x l ne .held)))
+          (unfold holdsCorrect in no-vector (b .n) 3 (linkAt b (placeOf me x)) v (omega (arith, empty x l ne .held)))
       nothing x (verifyFinal v) l ne h = clash (sym (seen-vote me b x ne v) ∙ h)
-          (unfold holdsVerifyFinal in none-held (b .n) 4 (linkAt b (placeOf me x)) v (omega (arith, empty x l ne .held)))
+          (unfold holdsVerifyFinal in no-vector (b .n) 4 (linkAt b (placeOf me x)) v (omega (arith, empty x l ne .held)))
 
   -- ---- the steps
   begun-view : view me (begun b) ≡ startedView (view me b)
@@ -112,9 +102,9 @@ module _ (me : ℕ) (b : Base) (inside : me < b .n) (e : recordRefusal b ≡ 0) 
   begun-view = refl
 
   begin-call : idle b ≡ true
-      → ViewCall (b .n) (b .t) me (b .own) start (view me b) (view me (begun b)) (announce (b .own) ∷ (verify (b .own) ∷ []))
+      → ViewCall (b .n) (b .t) me (b .own) startInput (view me b) (view me (begun b)) (announce (b .own) ∷ (verify (b .own) ∷ []))
   begin-call off =
-      subst (λ z. ViewCall (b .n) (b .t) me (b .own) start (view me b) z (announce (b .own) ∷ (verify (b .own) ∷ []))) (sym begun-view)
+      subst (λ z. ViewCall (b .n) (b .t) me (b .own) startInput (view me b) z (announce (b .own) ∷ (verify (b .own) ∷ []))) (sym begun-view)
       (begins-call (b .n) (b .t) me (b .own) (A .net .least) inside (A .own) (view me b) sound-seen (blank-seen off))
 
   on : idle b ≡ false → 1 ≤ view me b .state
@@ -125,19 +115,18 @@ module _ (me : ℕ) (b : Base) (inside : me < b .n) (e : recordRefusal b ≡ 0) 
       go s h = omega (arith, h)
 
   pub start-seen : Settled (b .n) (b .t) me (view me b)
-      → ViewCall (b .n) (b .t) me (b .own) start (view me b) (view me (startStep b .base)) (startStep b .says)
-  start-seen settled = start-step-cases (λ (d : Done). ViewCall (b .n) (b .t) me (b .own) start (view me b) (view me (d .base)) (d .says)) b
+      → ViewCall (b .n) (b .t) me (b .own) startInput (view me b) (view me (startStep b .base)) (startStep b .says)
+  start-seen settled = start-step-cases
+      (λ (d : Done). ViewCall (b .n) (b .t) me (b .own) startInput (view me b) (view me (d .base)) (d .says)) b
       (λ off. unfold begins accepts in begin-call off)
-      (λ off. unfold discards in unchanged-call (b .n) (b .t) me (b .own) start (view me b) settled (on off) (λ x m q s. impossible (cc)))
+      (λ off. unfold discards in
+      unchanged-call (b .n) (b .t) me (b .own) startInput (view me b) settled (on off) (λ x m q s. impossible (cc)))
 
   module _ (S : Sized b) (settled : Settled (b .n) (b .t) me (view me b)) (x : ℕ) (x-in : x < b .n) (ne : x ≢ me) (m : Message)
       (w : Valid (b .n) m) where
-    abbrev CallOf : Done → Type 0
-    CallOf d = ViewCall (b .n) (b .t) me (b .own) (arrival x m) (view me b) (view me (d .base)) (d .says)
-
-    stopped-call : stopped b ≡ true → CallOf (discards b)
+    stopped-call : stopped b ≡ true → ArrivalCall me b x m (discards b)
     unfolding discards
-    stopped-call q = unchanged-call (b .n) (b .t) me (b .own) (arrival x m) (view me b) settled (omega (arith, high))
+    stopped-call q = unchanged-call (b .n) (b .t) me (b .own) (messageInput x m) (view me b) settled (omega (arith, high))
         (λ y z r s. absurd (omega (arith, high)))
       where
         high : 2 ≤ view me b .state
@@ -150,25 +139,26 @@ module _ (me : ℕ) (b : Base) (inside : me < b .n) (e : recordRefusal b ≡ 0) 
     abbrev said : List Message
     said = announce (b .own) ∷ verify (b .own) ∷ []
 
-    idle-call : idle b ≡ true → CallOf (afterStart b next)
+    idle-call : idle b ≡ true → ArrivalCall me b x m (afterStart b next)
     unfolding afterStart
     idle-call off = start-then-call (b .n) (b .t) me (b .own) x m (view me b) (view me (next .base)) said (next .says)
         (blank-seen off .idle) (blank-seen off .unsent)
-        (subst (λ z. ViewCall (b .n) (b .t) me (b .own) start (view me b) z said) begun-view (begin-call off))
-        (subst (λ z. ViewCall (b .n) (b .t) me (b .own) (arrival x m) z (view me (next .base)) (next .says)) begun-view second)
+        (subst (λ z. ViewCall (b .n) (b .t) me (b .own) startInput (view me b) z said) begun-view (begin-call off))
+        (subst (λ z. ViewCall (b .n) (b .t) me (b .own) (messageInput x m) z (view me (next .base)) (next .says)) begun-view second)
       where
-        second : ViewCall (b .n) (b .t) me (b .own) (arrival x m) (view me (begun b)) (view me (next .base)) (next .says)
+        second : ViewCall (b .n) (b .t) me (b .own) (messageInput x m) (view me (begun b)) (view me (next .base)) (next .says)
         second = unfold withState in message-call me (begun b) inside (begun-runs b e off) (begun-sized b S)
             (begin-call off .settled) x x-in ne m w
 
     -- a running base takes the message up
-    running-call : stopped b ≡ false → idle b ≡ false → CallOf (onMessage b (placeOf me x) m)
+    running-call : stopped b ≡ false → idle b ≡ false → ArrivalCall me b x m (onMessage b (placeOf me x) m)
     running-call p q = message-call me b inside (admitted-runs b e runs) S settled x x-in ne m w
       where
         runs : b .state ≡ 1
         runs = omega (arith, leb-false 2 (b .state) (unfold stopped in p), eqb-false (b .state) 0 (unfold idle in q))
 
     -- "An idle base starts first. A stopped base discards. Then by kind"
-    pub arrival-seen : CallOf (arrivalStep b (placeOf me x) m)
+    pub arrival-seen : ArrivalCall me b x m (arrivalStep b (placeOf me x) m)
     unfolding arrivalStep andThen begins accepts afterStart
-    arrival-seen = choose-ind CallOf (stopped b) stopped-call (λ p. choose-ind CallOf (idle b) idle-call (running-call p))
+    arrival-seen = choose-ind (ArrivalCall me b x m) (stopped b) stopped-call
+        (λ p. choose-ind (ArrivalCall me b x m) (idle b) idle-call (running-call p))

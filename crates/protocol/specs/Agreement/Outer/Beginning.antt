@@ -6,6 +6,7 @@ use mathlib.Core.Logic.{inr}
 use mathlib.Core.Bool.{true, false}
 use mathlib.Core.List.{List, []}
 use native.Mathlib.Omega.{arith}
+use Rattle.limits.specs.Refusals.{NetSize}
 use Rattle.lists.specs.Lists.{sort}
 use Rattle.protocol.specs.declared.Base.{Base}
 use Rattle.protocol.specs.Record.Memory.{Words}
@@ -30,26 +31,33 @@ pub each-base : (n : ℕ) (Q : ℕ → Type 0) → ((x : ℕ) → x < n → Q (s
 each-base n Q h zero B = absurd (omega (arith, B .least))
 each-base n Q h (suc x) B = h x (B .most)
 
-pub here : {n : ℕ} (x : ℕ) → x < n → BaseOf n (suc x)
-here x l = record { least = omega arith; most = l }
+pub base-numbered : {n : ℕ} (x : ℕ) → x < n → BaseOf n (suc x)
+base-numbered x l = record { least = omega arith; most = l }
+
+-- what is known of the net after a list of events
+pub record ReachedNet (n t : ℕ) (faulty : List Pair) (id : ℕ → ℕ) (truth : List ℕ) (W : Net) : Type 0 where
+  pub size : NetSize n
+  pub premises : Premises n t (table faulty) id truth
+  pub follows : Follows n t faulty id W
+  pub invariant : GroupInvariant n t (table faulty) id truth (follows .group)
 
 module _ (n t : ℕ) (faulty : List Pair) (W : Net) (S : Setting n t faulty) (F : Fresh n t W) where
   -- ---- the premises of the inner theorem
   abbrev pub truth : List ℕ
   truth = sort (trueIdentifiers n W)
 
-  pub premises : Premises n t (table faulty) (trueOf W) truth
+  premises : Premises n t (table faulty) (trueOf W) truth
   premises = record {
     symmetric = table-symmetric faulty;
     few-faulty = omega (arith, table-total n faulty, S .few-faulty);
     enough = enough-bases n t faulty S;
     ids-apart = apart;
-    ids-above-zero = λ x l. record-passed (W .base (suc x)) (F .sound (suc x) (here x l)) .own;
+    ids-above-zero = λ x l. record-passed (W .base (suc x)) (F .sound (suc x) (base-numbered x l)) .own;
     truth-lists = truth-listed W n apart;
   }
     where
       apart : (x y : ℕ) → x < n → y < n → trueOf W x ≡ trueOf W y → x ≡ y
-      apart x y lx ly e = let q = F .different (suc x) (suc y) (here x lx) (here y ly) e in cc
+      apart x y lx ly e = let q = F .different (suc x) (suc y) (base-numbered x lx) (base-numbered y ly) e in cc
 
   -- ---- the beginning
   -- an idle record announces nothing
@@ -57,7 +65,7 @@ module _ (n t : ℕ) (faulty : List Pair) (W : Net) (S : Setting n t faulty) (F 
   words x l = record { own = F .word (suc x) B; announced = λ i k. omega (arith, idle-place b parts (F .idle (suc x) B) i k .announce) }
     where
       B : BaseOf n (suc x)
-      B = here x l
+      B = base-numbered x l
 
       b : Base
       b = W .base (suc x)
@@ -74,33 +82,37 @@ module _ (n t : ℕ) (faulty : List Pair) (W : Net) (S : Setting n t faulty) (F 
     group = beginning;
     reached = fresh (record {
       member = λ x l. record {
-        n-is = F .record-n (suc x) (here x l);
-        t-is = F .record-t (suc x) (here x l);
+        n-is = F .record-n (suc x) (base-numbered x l);
+        t-is = F .record-t (suc x) (base-numbered x l);
         own-is = refl;
-        refusal = F .sound (suc x) (here x l);
-        sized = F .sized (suc x) (here x l);
+        refusal = F .sound (suc x) (base-numbered x l);
+        sized = F .sized (suc x) (base-numbered x l);
         words = words x l;
       };
-      idle = λ x l. F .idle (suc x) (here x l);
+      idle = λ x l. F .idle (suc x) (base-numbered x l);
       silent = λ x l. refl;
       nothing = λ x y k. refl;
     });
     matches = record {
       base = λ x l. refl;
-      log = λ x l. F .silent (suc x) (here x l);
+      log = λ x l. F .silent (suc x) (base-numbered x l);
       carried = λ x y k. F .uncarried (suc x) (suc y) (suc k);
     };
   }
 
   -- ---- after any list of events
-  pub follows-run : (es : List Event) → AllProper n es → Follows n t faulty (trueOf W) (run faulty W es)
-  follows-run es p = run-follows n t faulty (trueOf W) truth (S .size) premises W es follows-beginning p
-
-  pub group-invariant-run : (es : List Event) (p : AllProper n es)
-      → GroupInvariant n t (table faulty) (trueOf W) truth (follows-run es p .group)
-  group-invariant-run es p = group-invariant n t (table faulty) (trueOf W) truth premises (follows-run es p .reached)
+  pub net-reached : (es : List Event) → AllProper n es → ReachedNet n t faulty (trueOf W) truth (run faulty W es)
+  net-reached es p = record {
+    size = S .size;
+    premises = premises;
+    follows = follows;
+    invariant = group-invariant n t (table faulty) (trueOf W) truth premises (follows .reached);
+  }
+    where
+      follows : Follows n t faulty (trueOf W) (run faulty W es)
+      follows = run-follows n t faulty (trueOf W) truth (S .size) premises W es follows-beginning p
 
   pub started-run : (es : List Event) → AllProper n es → ((b : ℕ) → BaseOf n b → started faulty W es b ≡ true) → (x : ℕ) → x < n
       → 1 ≤ run faulty W es .base (suc x) .state
   started-run es p all x l =
-      started-runs n t faulty (trueOf W) truth (S .size) premises W es (suc x) follows-beginning p (inr (all (suc x) (here x l)))
+      started-runs n t faulty (trueOf W) truth (S .size) premises W es (suc x) follows-beginning p (inr (all (suc x) (base-numbered x l)))

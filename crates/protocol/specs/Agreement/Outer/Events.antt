@@ -25,7 +25,7 @@ use Rattle.protocol.specs.Agreement.Invariant.{Premises, broadcastAt}
 use Rattle.protocol.specs.Agreement.Observers.{placeOf}
 use Rattle.protocol.specs.Agreement.Observers.Places.{place-link}
 use Rattle.protocol.specs.Agreement.Inner.{Group, groupAfter, ReachedGroup}
-use Rattle.protocol.specs.Agreement.Inner.{starts as group-starts, arrives as group-arrives, HandedOver}
+use Rattle.protocol.specs.Agreement.Inner.{groupStarts, groupArrives, HandedOver}
 use Rattle.protocol.specs.Agreement.Inner.Theorem.{GroupInvariant, group-invariant, start-runs, arrival-runs}
 use Rattle.protocol.specs.Agreement.Outer.Faulty.{table, table-good}
 use Rattle.protocol.specs.Agreement.Outer.Frames.{length-encoded, said-at, reads-back}
@@ -53,7 +53,7 @@ module _ (n t : ℕ) (faulty : List Pair) (id : ℕ → ℕ) (truth : List ℕ) 
       follows = record {
         group = groupAfter N y (startStep (N .base y)) (carriedBy W (starts (suc y) room));
         reached = subst (λ (h : ℕ → ℕ → ℕ → Bool). ReachedGroup n t (table faulty) id (groupAfter N y (startStep (N .base y)) h)) handed
-            (group-starts (F .reached) y y-in);
+            (groupStarts (F .reached) y y-in);
         matches = settled-matches n W N (starts (suc y) room) y (startStep (N .base y)) y-in (F .matches) (unfold at in refl) done;
       };
       runs = state-left W (starts (suc y) room) (startStep (N .base y)) done (start-runs n t (table faulty) id truth P (F .reached) y y-in);
@@ -82,7 +82,7 @@ module _ (n t : ℕ) (faulty : List Pair) (id : ℕ → ℕ) (truth : List ℕ) 
       arrival-moved e here is w source newly = record {
         follows = record {
           group = groupAfter N y (arrivalStep (N .base y) (placeOf y x) (messageOf burst)) (carriedBy W e);
-          reached = group-arrives (F .reached) x y (messageOf burst) (carriedBy W e) x-in y-in ne w source newly;
+          reached = groupArrives (F .reached) x y (messageOf burst) (carriedBy W e) x-in y-in ne w source newly;
           matches =
               settled-matches n W N e y (arrivalStep (N .base y) (placeOf y x) (messageOf burst)) y-in (F .matches) here (is ∙ arrived);
         };

@@ -7,7 +7,8 @@ use native.Mathlib.Nat.{le-refl}
 use native.Mathlib.Omega.{arith}
 use lib.Dec.{eqb}
 use lib.ListN.{length}
-use Rattle.lists.specs.Choice.{and, or}
+use Rattle.lists.specs.Choice.{and}
+use Rattle.lists.specs.Choice.Laws.{or-swap}
 use Rattle.counting.specs.Sums.{bit}
 use Rattle.counting.specs.Degrees.{total, Symmetric, total-mono, total-add, total-none, edge, edge-total}
 use Rattle.protocol.specs.Net.{Pair, joins, good}
@@ -29,13 +30,6 @@ table-good faulty x y e = go (good faulty (suc x) (suc y)) e
     go false h = absurd (unfold bit in omega arith)
 
 -- ---- symmetric
-or-swap : (a b : Bool) → or a b ≡ or b a
-unfolding or
-or-swap true true = refl
-or-swap true false = refl
-or-swap false true = refl
-or-swap false false = refl
-
 joins-swap : (p : Pair) (a b : ℕ) → joins p a b ≡ joins p b a
 unfolding joins
 joins-swap p a b = or-swap (and (eqb (p .one) a) (eqb (p .other) b)) (and (eqb (p .one) b) (eqb (p .other) a))

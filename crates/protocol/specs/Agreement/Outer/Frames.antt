@@ -3,7 +3,7 @@
 use Prim.Native.Nat.{ℕ, zero, suc, _≤_, _<_}
 use mathlib.Core.Path.{_≡_, refl, sym, ap, _∙_}
 use mathlib.Core.Logic.{_⊎_, inl, inr}
-use mathlib.Core.Bool.{Bool, true, false}
+use mathlib.Core.Bool.{true}
 use mathlib.Core.List.{List, [], _∷_, _++_, map, List·Memᴰ·head, List·Memᴰ·tail}
 use native.Mathlib.Omega.{arith}
 use borrow.Author.Tests.{eqb-true, eq-eqb}
@@ -12,7 +12,7 @@ use lib.ListN.{length, getD}
 use Rattle.limits.specs.Limits.{mostBases, longestBurst}
 use Rattle.limits.specs.Refusals.{NetSize, netRefusal}
 use Rattle.lists.specs.Choice.{or}
-use Rattle.lists.specs.Choice.Laws.{or-true, first-passed}
+use Rattle.lists.specs.Choice.Laws.{or-second, or-true, first-passed}
 use Rattle.frame.specs.Message.{Message, announce, verify, correctFinal, verifyFinal, kindOf, idsOf, Valid}
 use Rattle.frame.specs.Message.Laws.{expected-range}
 use Rattle.frame.specs.Encoding.{encode}
@@ -96,8 +96,4 @@ module _ (n : ℕ) (N : NetSize n) where
   said-says {v} valid (List·Memᴰ·head {x} {xs} e) =
       rw (eq-eqb (kindByte (encode x)) 3 (kind-written n N x (valid x (List·Memᴰ·head refl)) ∙ ap kindOf (sym e) ∙ (unfold kindOf in refl)))
   said-says {v} valid (List·Memᴰ·tail {x} {xs} h) =
-      rw (said-says (λ z s. valid z (List·Memᴰ·tail s)) h) (either (eqb (kindByte (encode x)) 3))
-    where
-      either : (t : Bool) → or t true ≡ true
-      either true = refl
-      either false = refl
+      or-second (eqb (kindByte (encode x)) 3) (said-says (λ z s. valid z (List·Memᴰ·tail s)) h)

@@ -32,24 +32,24 @@ module _ (n t : ℕ) (faulty : List Pair) (id : ℕ → ℕ) (truth : List ℕ) 
   run-follows W (e ∷ es) F p = run-follows (happens faulty W e) es (happens-follows W e F (p .0)) (p .1)
 
   -- ---- "A base is started by its first start or arrival that is not turned down."
-  abbrev Runs : Net → ℕ → Type 0
-  Runs W b = 1 ≤ W .base b .state
+  abbrev RunsOrStopped : Net → ℕ → Type 0
+  RunsOrStopped W b = 1 ≤ W .base b .state
 
   -- an event at another base leaves it alone, and one at this base leaves it running or stopped
-  settled-runs : (W : Net) (e : Event) (b : ℕ) → Follows n t faulty id W → Proper n e → refusal faulty W e ≡ 0 → Runs W b ⊎ (at e ≡ b)
-      → Runs (settled W e) b
+  settled-runs : (W : Net) (e : Event) (b : ℕ) → Follows n t faulty id W → Proper n e → refusal faulty W e ≡ 0
+      → RunsOrStopped W b ⊎ (at e ≡ b) → RunsOrStopped (settled W e) b
   settled-runs W e b F p r h = elim (ℕ-discrete b (at e)) [
-    | yes q ↦ subst (Runs (settled W e)) (sym q) (event-moved n t faulty id truth NS P W F e p r .runs)
+    | yes q ↦ subst (RunsOrStopped (settled W e)) (sym q) (event-moved n t faulty id truth NS P W F e p r .runs)
     | no q ↦ elim h [ inl k ↦ other q k | inr k ↦ absurd (q (sym k)) ]
   ]
     where
-      other : b ≢ at e → Runs W b → Runs (settled W e) b
+      other : b ≢ at e → RunsOrStopped W b → RunsOrStopped (settled W e) b
       other q k = unfold settled in rw (replaced-other (at e) _ (W .base) b q) k
 
   happens-runs : (W : Net) (e : Event) (b : ℕ) → Follows n t faulty id W → Proper n e
-      → Runs W b ⊎ (and (eqb (at e) b) (eqb (refusal faulty W e) 0) ≡ true) → Runs (happens faulty W e) b
+      → RunsOrStopped W b ⊎ (and (eqb (at e) b) (eqb (refusal faulty W e) 0) ≡ true) → RunsOrStopped (happens faulty W e) b
   unfolding happens
-  happens-runs W e b F p h = choose-ind (λ (M : Net). Runs M b) (eqb (refusal faulty W e) 0)
+  happens-runs W e b F p h = choose-ind (λ (M : Net). RunsOrStopped M b) (eqb (refusal faulty W e) 0)
       (λ r. settled-runs W e b F p (eqb-true (refusal faulty W e) 0 r)
       (elim h [ inl k ↦ inl k | inr k ↦ inr (eqb-true (at e) b (parts k .0)) ]))
       (λ r. elim h [ inl k ↦ k | inr k ↦ clash (parts k .1) r ])
@@ -58,14 +58,14 @@ module _ (n t : ℕ) (faulty : List Pair) (id : ℕ → ℕ) (truth : List ℕ) 
       parts = and-true (eqb (at e) b) (eqb (refusal faulty W e) 0)
 
   pub started-runs : (W : Net) (es : List Event) (b : ℕ) → Follows n t faulty id W → AllProper n es
-      → Runs W b ⊎ (started faulty W es b ≡ true) → Runs (run faulty W es) b
+      → RunsOrStopped W b ⊎ (started faulty W es b ≡ true) → RunsOrStopped (run faulty W es) b
   unfolding run started
   started-runs W [] b F p (inl h) = h
   started-runs W [] b F p (inr h) = impossible (cc)
   started-runs W (e ∷ es) b F p h = started-runs (happens faulty W e) es b (happens-follows W e F (p .0)) (p .1) (next h)
     where
-      next : Runs W b ⊎ (or (and (eqb (at e) b) (eqb (refusal faulty W e) 0)) (started faulty (happens faulty W e) es b) ≡ true)
-          → Runs (happens faulty W e) b ⊎ (started faulty (happens faulty W e) es b ≡ true)
+      next : RunsOrStopped W b ⊎ (or (and (eqb (at e) b) (eqb (refusal faulty W e) 0)) (started faulty (happens faulty W e) es b) ≡ true)
+          → RunsOrStopped (happens faulty W e) b ⊎ (started faulty (happens faulty W e) es b ≡ true)
       next (inl k) = inl (happens-runs W e b F (p .0) (inl k))
       next (inr k) = elim (or-true (and (eqb (at e) b) (eqb (refusal faulty W e) 0)) (started faulty (happens faulty W e) es b) k) [
         | inl q ↦ inl (happens-runs W e b F (p .0) (inr q))

@@ -11,16 +11,16 @@ use borrow.Author.Tests.{ltb-true, leb-true, eqb-true, eqb-false, not-true}
 use Rattle.lists.specs.Choice.Laws.{and-true}
 use Rattle.lists.specs.Lists.{Below}
 use Rattle.counting.specs.Sums.Laws.{all-at}
 use Rattle.protocol.specs.Computed.{computed}
 use Rattle.protocol.specs.Net.{Pair, Event, starts, carry, forge, hasStopped}
 use Rattle.protocol.specs.Agreement.{BaseOf, Setting, Proper, AllProper}
 use Rattle.protocol.specs.Agreement.Premise.{idleNet, idle-fresh}
 use Rattle.protocol.specs.Agreement.Theorem.{agreement}
 use Rattle.protocol.specs.Agreement.Outer.Beginning.{each-base}
-use Rattle.protocol.specs.Agreement.Examples.{Example, startsAt, carries, workedExample, faultyLinkExample}
-use Rattle.protocol.specs.Agreement.Examples.{baseTest, basesTest, bytesTest, properTest, allProperTest}
-use Rattle.protocol.specs.Agreement.Examples.{identifierTest, identifiersTest, settingTest, givenTest}
-use Rattle.protocol.specs.Agreement.Examples.{exampleBegins, exampleEnds, atRest, endStates}
+use Rattle.histories.specs.Examples.{Example, startsAt, carries, workedExample, faultyLinkExample}
+use Rattle.histories.specs.Examples.{baseTest, basesTest, bytesTest, properTest, allProperTest}
+use Rattle.histories.specs.Examples.{identifierTest, identifiersTest, settingTest, givenTest}
+use Rattle.histories.specs.Examples.{exampleBegins, exampleEnds, atRest, endStates}
 
 -- ---- the tests, as the statement puts them
 base-tested : (n b : ℕ) → baseTest n b ≡ true → BaseOf n b
