@@ -9,7 +9,7 @@ use lib.Dec.{eqb}
 use lib.ListN.{length, getD}
 use Rattle.lists.specs.Choice.{choose}
 use Rattle.lists.specs.Lists.{sort}
-use Rattle.print.specs.Decimal.{decimalText}
+use Rattle.print.specs.Decimal.{fieldText}
 use Rattle.lines.specs.Lines.{lineFeed}
 use Rattle.protocol.specs.Agreement.{BaseOf, trueIdentifiers}
 use Rattle.protocol.specs.Steps.{leaderOf}
@@ -51,11 +51,11 @@ givenIds s = trueIdentifiers (header s .n) (header s .net)
 
 -- ` 300 500 leader 500`: all identifiers sorted, and the leader that the rule takes from them
 unfoldable pub rosterText : List ℕ → List ℕ
-rosterText ids = (listText (sort ids) ++ leaderText) ++ decimalText (leaderOf ids)
+rosterText ids = listText (sort ids) ++ fieldText leaderText (leaderOf ids)
 
 -- `base 3` and what follows
 unfoldable pub ofBase : ℕ → List ℕ → List ℕ
-ofBase b text = (baseText ++ decimalText b) ++ text
+ofBase b text = fieldText baseText b ++ text
 
 -- the line of base b of a net with the identifiers ids
 pub data SaysOf (b : ℕ) (ids line : List ℕ) : Type 0 where
@@ -66,7 +66,7 @@ pub data SaysOf (b : ℕ) (ids line : List ℕ) : Type 0 where
 
 -- `waiting` and a number
 unfoldable pub ofWaiting : ℕ → List ℕ
-ofWaiting count = waitingText ++ decimalText count
+ofWaiting count = fieldText waitingText count
 
 pub record SaysWaiting (line : List ℕ) : Type 0 where
   pub count : ℕ
