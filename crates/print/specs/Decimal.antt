@@ -16,3 +16,7 @@ lastDigits (suc k) v = choose (ltb v 10) ((48 + v) ∷ []) (lastDigits k (v / 10
 
 unfoldable pub decimalText : ℕ → List ℕ
 decimalText v = lastDigits mostDigits v
+
+-- a label, and a number behind it
+abbrev pub fieldText : List ℕ → ℕ → List ℕ
+fieldText label v = label ++ decimalText v

@@ -1,12 +1,11 @@
 -- The report of a schedule (document 01, "The replay program").
 use Prim.Native.Nat.{ℕ, zero, suc, _+_, _*_}
 use mathlib.Core.List.{List, [], _∷_, _++_}
-use lib.Dec.{eqb, ltb, leb}
+use lib.Dec.{eqb, ltb}
 use lib.ListN.{length}
-use lib.Seq.{sets}
 use Rattle.limits.specs.Limits.{mostBases}
 use Rattle.lists.specs.Choice.{choose}
-use Rattle.print.specs.Decimal.{decimalText}
+use Rattle.print.specs.Decimal.{fieldText}
 use Rattle.frame.specs.Encoding.{over}
 use Rattle.lines.specs.Lines.{space, lineFeed}
 use Rattle.protocol.specs.declared.Base.{Base}
@@ -14,6 +13,17 @@ use Rattle.protocol.specs.Record.{finalList}
 use Rattle.protocol.specs.Steps.{leaderOf}
 use Rattle.protocol.specs.Net.{Net, waiting}
 use Rattle.schedule.specs.Meaning.{Progress, meaning}
+pub mod Laws
+
+-- ---- the states of a base: "idle (0), running (1), prime (2) or secondary (3)"
+abbrev pub idleState : ℕ
+idleState = 0
+
+abbrev pub runningState : ℕ
+runningState = 1
+
+abbrev pub primeState : ℕ
+primeState = 2
 
 -- ---- words
 -- `base `
@@ -59,23 +69,23 @@ feed = lineFeed ∷ []
 -- each identifier behind a space
 unfoldable pub listText : List ℕ → List ℕ
 listText [] = []
-listText (v ∷ l) = (space ∷ decimalText v) ++ listText l
+listText (v ∷ l) = fieldText (space ∷ []) v ++ listText l
 
 -- ` 300 500 leader 500`
 unfoldable pub finalText : List ℕ → List ℕ
-finalText l = (listText l ++ leaderText) ++ decimalText (leaderOf l)
+finalText l = listText l ++ fieldText leaderText (leaderOf l)
 
 -- "A secondary base prints `secondary` for `prime`. A base that has not stopped prints `base 3 running` or `base 3 idle`, with no list."
 unfoldable pub stateText : Base → List ℕ
 stateText b =
-    choose (eqb (b .state) 0) idleText
-    (choose (eqb (b .state) 1) runningText
-    (choose (eqb (b .state) 2) (primeText ++ finalText (finalList b))
+    choose (eqb (b .state) idleState) idleText
+    (choose (eqb (b .state) runningState) runningText
+    (choose (eqb (b .state) primeState) (primeText ++ finalText (finalList b))
     (secondaryText ++ finalText (finalList b))))
 
 -- "one line a base [..] (state, final list, leader)"
 unfoldable pub baseLine : ℕ → Base → List ℕ
-baseLine number b = ((baseText ++ decimalText number) ++ stateText b) ++ feed
+baseLine number b = (fieldText baseText number ++ stateText b) ++ feed
 
 -- "in order of number": the bases 1 to k
 unfoldable pub baseLines : ℕ → Net → List ℕ
@@ -85,11 +95,11 @@ baseLines (suc k) W = baseLines k W ++ baseLine (suc k) (W .base (suc k))
 -- ---- the report
 -- "then `waiting` with the number of broadcasts times receivers on good links not yet carried"
 unfoldable pub waitingLine : ℕ → List ℕ
-waitingLine count = (waitingText ++ decimalText count) ++ feed
+waitingLine count = fieldText waitingText count ++ feed
 
 -- "The first refused line prints only `refused N line L`."
 unfoldable pub refusedLine : ℕ → ℕ → List ℕ
-refusedLine number line = (((refusedText ++ decimalText number) ++ lineText) ++ decimalText line) ++ feed
+refusedLine number line = (fieldText refusedText number ++ fieldText lineText line) ++ feed
 
 unfoldable pub reportOf : Progress → List ℕ
 reportOf st =
@@ -101,16 +111,29 @@ unfoldable pub report : List ℕ → List ℕ
 report s = reportOf (meaning s)
 
 -- ---- in an output
--- room for any line: `base `, three digits, ` secondary`, eleven bytes for each identifier, ` leader 4294967295` and the line feed
+-- the digits of the largest identifier, 4294967295
+abbrev pub identifierDigits : ℕ
+identifierDigits = 10
+
+-- the digits of the largest number of a base that a byte holds, 255
+abbrev pub numberDigits : ℕ
+numberDigits = 3
+
+-- room for any identifier behind its space
+abbrev pub identifierRoom : ℕ
+identifierRoom = 1 + identifierDigits
+
+-- room for any final list and its leader
+abbrev pub finalRoom : ℕ
+finalRoom = identifierRoom * mostBases + length leaderText + identifierDigits
+
+-- room for any state: the longest word, and a final list
+abbrev pub stateRoom : ℕ
+stateRoom = length secondaryText + finalRoom
+
+-- room for any line: the longest is that of a base
 abbrev pub lineRoom : ℕ
-lineRoom = 37 + 11 * mostBases
-
--- where there is room for any line, a line at its place: the place behind it, and the output
-unfoldable pub lineEnd : List ℕ → ℕ → List ℕ → ℕ
-lineEnd out at text = choose (leb (at + lineRoom) (length out)) (at + length text) at
-
-unfoldable pub lineOutput : List ℕ → ℕ → List ℕ → List ℕ
-lineOutput out at text = choose (leb (at + lineRoom) (length out)) (sets out at text) out
+lineRoom = length baseText + numberDigits + stateRoom + length feed
 
 -- room for any report: a line a base, and `waiting`
 abbrev pub reportRoom : ℕ

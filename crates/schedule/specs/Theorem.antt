@@ -10,7 +10,7 @@ use lib.Dec.{eqb}
 use lib.ListN.{length, getD}
 use Rattle.lists.specs.Choice.{choose}
 use Rattle.lists.specs.Lists.{sort}
-use Rattle.print.specs.Decimal.{decimalText}
+use Rattle.print.specs.Decimal.{fieldText}
 use Rattle.lines.specs.Lines.{lineFeed}
 use Rattle.protocol.specs.Steps.{leaderOf}
 use Rattle.protocol.specs.Net.{Net, Pair, hasStopped, waiting}
@@ -53,11 +53,11 @@ givenIds s = trueIdentifiers (header s .n) (header s .net)
 
 -- ` 300 500 leader 500`: all identifiers sorted, and the leader that the rule takes from them
 unfoldable pub rosterText : List ℕ → List ℕ
-rosterText ids = (listText (sort ids) ++ leaderText) ++ decimalText (leaderOf ids)
+rosterText ids = listText (sort ids) ++ fieldText leaderText (leaderOf ids)
 
 -- `base 3` and what follows
 unfoldable pub ofBase : ℕ → List ℕ → List ℕ
-ofBase b text = (baseText ++ decimalText b) ++ text
+ofBase b text = fieldText baseText b ++ text
 
 -- the line of base b of the net W, whose identifiers are ids: by the state of base b, which is 2 or 3 exactly if it has stopped
 pub data SaysOf (W : Net) (b : ℕ) (ids line : List ℕ) : Type 0 where
@@ -68,7 +68,7 @@ pub data SaysOf (W : Net) (b : ℕ) (ids line : List ℕ) : Type 0 where
 
 -- `waiting` and a number
 unfoldable pub ofWaiting : ℕ → List ℕ
-ofWaiting count = waitingText ++ decimalText count
+ofWaiting count = fieldText waitingText count
 
 -- ---- the statement
 -- a text that reports the net W of n bases, whose faulty links and identifiers these are

@@ -9,7 +9,7 @@ use lib.Dec.{ltb}
 use lib.ListN.{length, set, drop, length-append, length-set, drop-of-length-le}
 use lib.Seq.{drop-cons, drop-set-lt, getD-set-same}
 use Rattle.lists.specs.Choice.Laws.{choose-yes, choose-no, choose-ind}
-use Rattle.print.specs.Decimal.{mostDigits, lastDigits, decimalText}
+use Rattle.print.specs.Decimal.{mostDigits, lastDigits, decimalText, fieldText}
 
 -- the array from a place on, with one byte stored there
 store-front : (bytes : List ℕ) (i x : ℕ) → i < length bytes → drop i (set bytes i x) ≡ x ∷ drop (suc i) bytes
@@ -61,9 +61,14 @@ few-last (suc m) (suc k) v h =
     choose-ind (λ (l : List ℕ). length l ≤ suc (suc k)) (ltb v 10) (λ _. omega arith)
     (λ _. omega (arith, length-append (lastDigits m (v / 10)) ((48 + v % 10) ∷ []), few-last m k (v / 10) less))
 
-pub few-digits : (k v : ℕ) → v < 10 ^ suc k → length (decimalText v) ≤ suc k
+few-digits : (k v : ℕ) → 1 ≤ k → v < 10 ^ k → length (decimalText v) ≤ k
 unfolding decimalText
-few-digits k v h = few-last mostDigits k v h
+few-digits zero v some h = absurd (omega arith)
+few-digits (suc k) v some h = few-last mostDigits k v h
+
+-- a label and behind it a number below 10 to the k
+pub few-field : (k : ℕ) (label : List ℕ) (v : ℕ) → 1 ≤ k → v < 10 ^ k → length (fieldText label v) ≤ length label + k
+few-field k label v some h = omega (arith, length-append label (decimalText v), few-digits k v some h)
 
 most-last : (m v : ℕ) → length (lastDigits m v) ≤ m
 unfolding lastDigits
@@ -72,6 +77,6 @@ most-last (suc m) v =
     choose-ind (λ (l : List ℕ). length l ≤ suc m) (ltb v 10) (λ _. omega arith)
     (λ _. omega (arith, length-append (lastDigits m (v / 10)) ((48 + v % 10) ∷ []), most-last m (v / 10)))
 
-pub most-digits : (v : ℕ) → length (decimalText v) ≤ mostDigits
+pub most-field : (label : List ℕ) (v : ℕ) → length (fieldText label v) ≤ length label + mostDigits
 unfolding decimalText
-most-digits v = most-last mostDigits v
+most-field label v = omega (arith, length-append label (decimalText v), most-last mostDigits v)

@@ -1,15 +1,17 @@
 -- Texts put one behind the other are one text: the law that composes appends.
 use Prim.Native.Nat.{ℕ, suc, _+_, _≤_, _<_}
 use mathlib.Core.Path.{_≡_, refl, sym, ap, _∙_}
+use mathlib.Core.Bool.{true, false}
 use mathlib.Core.List.{List, [], _∷_, _++_}
 use native.Mathlib.Nat.{add-zero}
 use native.Mathlib.Numerals.{add-one}
 use native.Mathlib.Omega.{arith}
-use borrow.Author.Tests.{le-leb, lt-leb}
+use borrow.Author.Tests.{le-leb}
+use lib.Dec.{leb}
 use lib.ListN.{length, set, take, drop, getD, length-append}
 use lib.Seq.{sets, length-sets, sets-eq, take-suc, take-all}
 use Rattle.lists.specs.Choice.Laws.{choose-yes, choose-no}
-use Rattle.print.specs.Put.{textFits, textEnd, textOutput, Put}
+use Rattle.print.specs.Put.{roomEnd, roomOutput, Put}
 
 sets-append : (out : List ℕ) (at : ℕ) (t u : List ℕ) → sets out at (t ++ u) ≡ sets (sets out at t) (at + length t) u
 sets-append out at [] u = rw (add-zero at)
@@ -42,20 +44,20 @@ pub put-all : {out : List ℕ} {at : ℕ} (w : List ℕ) (j : ℕ) {o₁ : List 
 put-all w j h p = rw take-all at p
 
 -- ---- where there is room
-pub put-fits : {out : List ℕ} {at : ℕ} {text after : List ℕ} {end : ℕ} → at + length text ≤ length out
-    → end ≡ textEnd out at text → after ≡ textOutput out at text → Put out at text after end
-unfolding textEnd textOutput textFits
-put-fits room e o = let f = le-leb _ _ room in record { past = e ∙ choose-yes _ _ f; is = o ∙ choose-yes _ _ f }
+pub put-fits : (room : ℕ) {out : List ℕ} {at : ℕ} {text after : List ℕ} {end : ℕ} → at + room ≤ length out
+    → (end ≡ roomEnd room out at text) × (after ≡ roomOutput room out at text) → Put out at text after end
+unfolding roomEnd roomOutput
+put-fits room fits e = let f = le-leb _ _ fits in record { past = e .0 ∙ choose-yes _ _ f; is = e .1 ∙ choose-yes _ _ f }
 
-pub fits-put : {out : List ℕ} {at : ℕ} {text after : List ℕ} {end : ℕ} → at + length text ≤ length out
-    → Put out at text after end → (end ≡ textEnd out at text) × (after ≡ textOutput out at text)
-unfolding textEnd textOutput textFits
-fits-put room p = let f = le-leb _ _ room in (p .past ∙ sym (choose-yes _ _ f), p .is ∙ sym (choose-yes _ _ f))
+pub fits-put : (room : ℕ) {out : List ℕ} {at : ℕ} {text after : List ℕ} {end : ℕ} → leb (at + room) (length out) ≡ true
+    → Put out at text after end → (end ≡ roomEnd room out at text) × (after ≡ roomOutput room out at text)
+unfolding roomEnd roomOutput
+fits-put room f p = (p .past ∙ sym (choose-yes _ _ f), p .is ∙ sym (choose-yes _ _ f))
 
-pub not-put : (out : List ℕ) (at : ℕ) (text : List ℕ)
-    → length out < at + length text → (at ≡ textEnd out at text) × (out ≡ textOutput out at text)
-unfolding textEnd textOutput textFits
-not-put out at text short = let f = lt-leb _ _ short in (sym (choose-no _ _ f), sym (choose-no _ _ f))
+pub not-put : (room : ℕ) (out : List ℕ) (at : ℕ) (text : List ℕ) → leb (at + room) (length out) ≡ false
+    → (at ≡ roomEnd room out at text) × (out ≡ roomOutput room out at text)
+unfolding roomEnd roomOutput
+not-put room out at text f = (sym (choose-no _ _ f), sym (choose-no _ _ f))
 
 -- a text at the front, and the rest as it was
 pub put-front : {out text after : List ℕ} {end : ℕ}
@@ -69,11 +71,10 @@ pub put-begin : (out : List ℕ) (at : ℕ) (w : List ℕ) → Put out at (take 
 put-begin out at w = record { past = refl; is = refl }
 
 -- a text more, where there is room for all
-pub put-next : {out : List ℕ} {at : ℕ} {t o₁ : List ℕ} {p : ℕ} (u : List ℕ) {o₂ : List ℕ} {q : ℕ}
-    → Put out at t o₁ p → p + length u ≤ length out
-    → q ≡ textEnd o₁ p u → o₂ ≡ textOutput o₁ p u → Put out at (t ++ u) o₂ q
-put-next {out} {at} {t} {o₁} {p} u a room e o =
-    put-then a (put-fits (omega (arith, ap length (a .is) ∙ length-sets out at t)) e o)
+pub put-next : (room : ℕ) (u : List ℕ) {out : List ℕ} {at : ℕ} {t o₁ : List ℕ} {p : ℕ} {o₂ : List ℕ} {q : ℕ}
+    → Put out at t o₁ p → p + room ≤ length out
+    → (q ≡ roomEnd room o₁ p u) × (o₂ ≡ roomOutput room o₁ p u) → Put out at (t ++ u) o₂ q
+put-next room u {out} {at} {t} a fits e = put-then a (put-fits room (omega (arith, ap length (a .is) ∙ length-sets out at t)) e)
 
 -- the output keeps its length
 pub text-length : {out : List ℕ} {at : ℕ} {t o₁ : List ℕ} {p : ℕ} → Put out at t o₁ p → length o₁ ≡ length out

@@ -10,9 +10,8 @@ use Rattle.lists.specs.Choice.Laws.{chosen-yes, chosen-no}
 use Rattle.frame.specs.Encoding.{over}
 use Rattle.net.specs.declared.StoredNet.{StoredNet}
 use Rattle.net.specs.Header.{begunNet}
-use Rattle.print.specs.Put.Laws.{put-as, put-front}
-use Rattle.report.specs.Laws.{line-there}
-use Rattle.schedule.specs.Report.{replayLength, replayOutput}
+use Rattle.print.specs.Put.Laws.{put-as, put-front, put-fits}
+use Rattle.schedule.specs.Report.{lineRoom, replayLength, replayOutput}
 use Rattle.stored_walk.specs.Follows.{header-few, long-report, lines-report}
 use Rattle.replay.proofs.replay.Statement.{statement}
 use Rattle.replay.proofs.replay.Tie as tie
@@ -34,7 +33,7 @@ returns-2 c =
     let room = c .before .before .before .before .before .if1 .left in
     let put = c .before .before .refused-line .ensures in
     let P = put-as (long-report s (c .before .before .before .before .if2 .taken))
-    (line-there (omega (arith, room)) (put .0) (put .1 .0)) in
+    (put-fits lineRoom (omega (arith, room)) (put .0, put .1 .0)) in
     let f = put-front (omega (arith, P .past, put .1 .1, room)) P in
     let e = le-ltb _ _ room in
     (chosen-no _ e (f .0), (chosen-no _ e (f .1), omega (arith, put .1 .1, room)))

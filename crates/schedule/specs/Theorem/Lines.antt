@@ -64,7 +64,7 @@ one-list (v ∷ l) = one-append (decimalText v) (listText l) (one-decimal v) (on
 
 one-final : (l : List ℕ) → OneLine (finalText l)
 unfolding finalText member or
-one-final l = one-append (listText l ++ leaderText) _ (one-append (listText l) leaderText (one-list l) refl) (one-decimal (leaderOf l))
+one-final l = one-append (listText l) _ (one-list l) (one-append leaderText (decimalText (leaderOf l)) refl (one-decimal (leaderOf l)))
 
 one-state : (b : Base) → OneLine (stateText b)
 unfolding stateText member or

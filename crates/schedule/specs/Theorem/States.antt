@@ -9,7 +9,7 @@ use borrow.Author.Tests.{eqb-false}
 use lib.Dec.{eqb, leb}
 use Rattle.lists.specs.Choice.{choose}
 use Rattle.lists.specs.Lists.{sort}
-use Rattle.print.specs.Decimal.{decimalText}
+use Rattle.print.specs.Decimal.{fieldText}
 use Rattle.protocol.specs.declared.Base.{Base}
 use Rattle.protocol.specs.Record.{finalList}
 use Rattle.protocol.specs.Steps.{leaderOf}
@@ -18,6 +18,7 @@ use Rattle.protocol.specs.Agreement.{BaseOf, trueIdentifiers}
 use Rattle.schedule.specs.Meaning.{Progress, wholeSchedule, header, meaning}
 use Rattle.schedule.specs.Meaning.Begins.{Whole, header-begins, begins-setting, begins-fresh}
 use Rattle.schedule.specs.Meaning.Continues.{Continues, whole-continues, header-unrefused, meaning-whole}
+use Rattle.schedule.specs.Report.{idleState, runningState, primeState}
 use Rattle.schedule.specs.Report.{idleText, runningText, primeText, secondaryText, listText, leaderText, finalText, stateText}
 use Rattle.schedule.specs.Theorem.{givenIds, rosterText}
 use Rattle.schedule.specs.Theorem.Histories.{state-most, stops-by, final-by, leader-by, ends-by}
@@ -25,9 +26,9 @@ use Rattle.schedule.specs.Theorem.Histories.{state-most, stops-by, final
 -- what a base prints, by its state alone
 unfoldable pub agreedText : ℕ → List ℕ → List ℕ
 agreedText state ids =
-    choose (eqb state 0) idleText
-    (choose (eqb state 1) runningText
-    (choose (eqb state 2) (primeText ++ rosterText ids)
+    choose (eqb state idleState) idleText
+    (choose (eqb state runningState) runningText
+    (choose (eqb state primeState) (primeText ++ rosterText ids)
     (secondaryText ++ rosterText ids)))
 
 -- what is said of a schedule s that leaves st
@@ -54,7 +55,7 @@ choose-same false f g = g refl
 
 roster-is : (l ids : List ℕ) → l ≡ sort ids → leaderOf l ≡ leaderOf ids → finalText l ≡ rosterText ids
 unfolding finalText rosterText
-roster-is l ids e f = ap₂ (λ (x : List ℕ) (v : ℕ). (listText x ++ leaderText) ++ decimalText v) e f
+roster-is l ids e f = ap₂ (λ (x : List ℕ) (v : ℕ). listText x ++ fieldText leaderText v) e f
 
 text-agrees : (b : Base) (ids : List ℕ)
     → (2 ≤ b .state → finalText (finalList b) ≡ rosterText ids) → stateText b ≡ agreedText (b .state) ids

@@ -6,11 +6,11 @@ use mathlib.Core.Path.{_≡_, refl, sym, ap, _∙_, subst}
 use mathlib.Core.List.{_++_}
 use lib.ListN.{length}
 use Rattle.print.specs.Put.{Put}
-use Rattle.print.specs.Put.Laws.{put-none, put-as, put-then}
+use Rattle.print.specs.Put.Laws.{put-none, put-as, put-then, put-fits}
 use Rattle.protocol.specs.declared.Base.{Base}
 use Rattle.net.specs.Abstraction.{netOf}
 use Rattle.schedule.specs.Report.{lineRoom, baseLine, baseLines}
-use Rattle.report.specs.Laws.{line-there, bases-none, bases-more}
+use Rattle.schedule.specs.Report.Laws.{bases-none, bases-more}
 use Rattle.stored_walk.specs.Turn.{base-there}
 use Rattle.replay.proofs.output.put_bases.Statement.{statement}
 use Rattle.replay.proofs.output.put_bases.Tie as tie
@@ -49,8 +49,8 @@ loop-again c =
     let a = c .before .before .before .before .before .before .before .before .before in
     let I = l .inv in
     let less = c .before .before .before .before .before .before .loop-test .taken in
-    let P = line-there (omega (arith, I .1 .0, I .1 .1 .0, a .pre .0, a .pre .1, less))
-    (c .before .before .base-line .ensures .0) (c .before .before .base-line .ensures .1 .0) in (
+    let P = put-fits lineRoom (omega (arith, I .1 .0, I .1 .1 .0, a .pre .0, a .pre .1, less))
+    (c .before .before .base-line .ensures .0, c .before .before .base-line .ensures .1 .0) in (
       omega (arith, less),
       (
         omega (arith, I .1 .0, c .before .before .base-line .ensures .1 .1),

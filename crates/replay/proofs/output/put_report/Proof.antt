@@ -11,12 +11,11 @@ use lib.ListN.{length}
 use Rattle.lists.specs.Choice.Laws.{chosen-yes, chosen-no}
 use Rattle.limits.specs.Limits.{mostBases}
 use Rattle.print.specs.Put.{Put}
-use Rattle.print.specs.Put.Laws.{put-as, put-then, text-length}
+use Rattle.print.specs.Put.Laws.{put-as, put-then, text-length, put-fits}
 use Rattle.net.specs.declared.StoredNet.{StoredNet}
 use Rattle.net.specs.Abstraction.{netOf}
 use Rattle.net.specs.Header.{begunNet}
-use Rattle.schedule.specs.Report.{reportRoom, baseLines, waitingLine}
-use Rattle.report.specs.Laws.{line-there}
+use Rattle.schedule.specs.Report.{lineRoom, reportRoom, baseLines, waitingLine}
 use Rattle.schedule.specs.Walk.{nextLine, repeat}
 use Rattle.schedule.specs.Walk.Laws.{repeat-none, repeat-done}
 use Rattle.stored_walk.specs.State.{reportNet, replaying}
@@ -62,8 +61,8 @@ returns c =
       put-as (chosen-no _ (ne-eqb _ 0 down) refl
           ∙ ap reportNet (repeat-done (length s) 0 _ _ (omega arith) (repeat-none _ _)
           (next-refused s (begunNet (a .args .header)) down)))
-          (line-there (omega (arith, a .pre .1 .1)) (c .before .before .refused-line .ensures .0)
-          (c .before .before .refused-line .ensures .1 .0)),
+          (put-fits lineRoom (omega (arith, a .pre .1 .1))
+          (c .before .before .refused-line .ensures .0, c .before .before .refused-line .ensures .1 .0)),
       omega (arith, c .before .before .refused-line .ensures .1 .1),
     )
 
@@ -104,8 +103,8 @@ returns-2 c =
           (stepped (c .before .before .before .before .before .before)) down)
           ∙ ap (λ (w : StoredNet). reportNet (repeat (length s) (nextLine replaying s) w))
           (c .before .before .before .before .before .before .before .before .before .before .begun .ensures))
-          (line-there (omega (arith, a .pre .1 .1, ap length (I .0)))
-          (c .before .before .refused-line2 .ensures .0) (c .before .before .refused-line2 .ensures .1 .0))),
+          (put-fits lineRoom (omega (arith, a .pre .1 .1, ap length (I .0)))
+          (c .before .before .refused-line2 .ensures .0, c .before .before .refused-line2 .ensures .1 .0))),
       omega (arith, c .before .before .refused-line2 .ensures .1 .1),
     )
 
@@ -152,8 +151,8 @@ returns-3 c =
     let room : reportRoom ≤ length
     (l .loop .out) = omega
     (arith, a .pre .1 .1, ap length (I .0)) in
-    let P = line-there (omega (arith, put .1, I .1 .bases, room, text-length (put .0)))
-    (c .before .before .waiting-line .ensures .0) (c .before .before .waiting-line .ensures .1 .0) in (
+    let P = put-fits lineRoom (omega (arith, put .1, I .1 .bases, room, text-length (put .0)))
+    (c .before .before .waiting-line .ensures .0, c .before .before .waiting-line .ensures .1 .0) in (
       onto (I .0)
           (put-as (ap (λ (k : ℕ). baseLines (w .n) (netOf w) ++ waitingLine k) (c .before .before .before .waiting .ensures)
           ∙ chosen-yes _ (eq-eqb _ 0 (I .1 .none)) refl
