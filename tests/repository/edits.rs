@@ -11,8 +11,9 @@ use std::collections::BTreeSet;
 /// A crate and the name of an edit of it.
 type Edit = (String, String);
 
-/// What the prover says of a proof that no longer fits the code: the edit changed the code's shape, and shows nothing.
-const MISFITS: [&str; 2] = ["has no field", "has no `Need-"];
+/// What the prover says of a proof that no longer fits the code, where the edit changed the code's shape, and of a name that is nowhere.
+/// Such an edit shows nothing.
+const MISFITS: [&str; 3] = ["has no field", "has no `Need-", "is not in scope"];
 
 pub fn check() -> Result<String, Vec<String>> {
     let there = there();
@@ -65,8 +66,7 @@ pub fn check_tried() -> Result<String, Vec<String>> {
     for (krate, name) in &there {
         match text_of(&format!("target/must-fail/{krate}/{name}/.log")) {
             Ok(log) => {
-                let misfits = MISFITS.iter().filter(|words| log.contains(*words));
-                wrong.extend(misfits.map(|words| format!("{name} of {krate} is refused by a misfit: {words}")));
+                wrong.extend(misfit(&log).map(|what| format!("{name} of {krate} is refused by a misfit: {what}")));
             }
             Err(_) => untried += 1,
         }
@@ -77,5 +77,33 @@ pub fn check_tried() -> Result<String, Vec<String>> {
     match wrong.is_empty() {
         true => Ok(format!("{} edits tried, none refused by a misfit", there.len())),
         false => Err(wrong),
+    }
+}
+
+/// The first misfit that a log tells. An error that begins with no declaration's name is that of a text which cannot be read, or of a proof
+/// that finds nothing to prove; code that the compiler refuses is told by rt itself.
+fn misfit(log: &str) -> Option<&str> {
+    let errors = log.lines().filter_map(|line| Some(line.split_once(": error: ")?.1));
+    let mut misfits = errors.filter(|what| !what.starts_with('`') || MISFITS.iter().any(|words| what.contains(words)));
+    misfits.next()
+}
+
+#[cfg(test)]
+mod tests {
+    use super::misfit;
+
+    #[test]
+    fn misfits_are_told_from_facts() {
+        let fact = "proofs/least/Proof.antt:8:3: error: `returns`: expected type `a`, but this has type `b`\nlogic=not-proved\n";
+        assert_eq!(misfit(fact), None);
+        for what in [
+            "`returns`: record `After-put` has no field `write-refusal`",
+            "`add-t12`: `tie.Need-add-t12`: module `Tie` has no `Need-add-t12` that can be named from here",
+            "module `proofs.happen` has no `Tie` that can be named from here",
+            "`ensures-1`: `minn` is not in scope; did you mean `min`?",
+            "this line starts at column 1, but the `(` opened at 49:36 is still open",
+        ] {
+            assert_eq!(misfit(&format!("{fact}specs/Lists.antt:49:36: error: {what}\n")), Some(what));
+        }
     }
 }

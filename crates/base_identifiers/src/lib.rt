@@ -1,6 +1,6 @@
 // The identifiers of the bases, as a schedule's header names them: that of base b stands at b - 1, zero for none yet.
 use limits::MOST_BASES;
-use limits::refusal::OWN_IDENTIFIER;
+use limits::own_refusal;
 use limits::refusal::SAME_IDENTIFIER;
 ghost use mathlib.Core.Path.{_≡_};
 ghost use Rattle.limits.specs.Limits.{mostBases};
@@ -40,8 +40,9 @@ fn is_named(ids: [u32; MOST_BASES], v: u32) -> bool
 pub fn id_refusal(ids: [u32; MOST_BASES], v: u32) -> u8
     ensures { λ r. ⌜ r ≡ idNumber ids v ⌝ }
 {
-    if v == 0 {
-        return OWN_IDENTIFIER;
+    let own = own_refusal(v);
+    if own != 0 {
+        return own;
     }
     if is_named(ids, v) {
         return SAME_IDENTIFIER;

@@ -1,5 +1,5 @@
--- What an event does to the program's net. The call, and the number by which the event is turned down, are those of protocol's StoredNet,
--- for the net that the program's net stands for.
+-- What an event does to the program's net. The call, and the number by which the event is turned down, are those of protocol's Net, for
+-- the net that the program's net stands for.
 use Prim.Native.Nat.{ℕ, _-_}
 use mathlib.Core.List.{List, []}
 use lib.Dec.{eqb, ltb}

@@ -1,5 +1,7 @@
 // What one link holds.
 use comparison::same;
+use frame::kind::CORRECT_FINAL;
+use frame::kind::VERIFY_FINAL;
 use limits::MOST_BASES;
 use membership::holds;
 use protocol::Link;
@@ -8,9 +10,9 @@ ghost use lib.ListN.{take};
 ghost use Rattle.protocol.specs.Links.{announces, holdsVerify, used, full, holdsVector};
 
 // The kind of the vector message that a link holds, in the width that the link has for it.
-pub const HELD_CORRECT_FINAL: u16 = 3;
+pub const HELD_CORRECT_FINAL: u16 = CORRECT_FINAL as u16;
 
-pub const HELD_VERIFY_FINAL: u16 = 4;
+pub const HELD_VERIFY_FINAL: u16 = VERIFY_FINAL as u16;
 
 pub fn has_announce(link: Link) -> bool
     ensures { λ r. ⌜ r ≡ announces link ⌝ }

@@ -69,12 +69,12 @@ joinedAll v (bytes ∷ log) = joinedAll (joined v bytes) log
 unfoldable pub withBase : Node → Base → Node
 withBase v b = record { base = b; count = v .count; frames = v .frames; heard = v .heard }
 
--- a base nodeAfter a call on its record; a call that is turned down changes nothing
+-- a base after a call on its record; a call that is turned down changes nothing
 unfoldable pub nodeAfter : Node → Done → Node
 nodeAfter v d = joinedAll (withBase v (d .base)) (map encode (d .says))
 
 -- ---- carries
--- the markPlace of the mark of a's k-th broadcast
+-- the place of the mark of a's k-th broadcast
 unfoldable pub markPlace : ℕ → ℕ → ℕ
 markPlace a k = (a - 1) * mostBroadcasts + (k - 1)
 

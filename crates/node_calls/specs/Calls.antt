@@ -16,7 +16,7 @@ use Rattle.node_calls.specs.declared.Told.{Told}
 pub mod Tidy
 pub mod Laws
 
--- the base nodeAfter the call, beside the number by which the call was turned down
+-- the base after the call, beside the number by which the call was turned down
 unfoldable pub told : Node → Done → Told
 told v d = record { refusal = callRefusal (d .answer); node = nodeAfter v d }
 

@@ -8,7 +8,6 @@ use borrow.Author.Tests.{eq-eqb, ne-eqb}
 use lib.ListN.{getD}
 use Rattle.limits.specs.Limits.{mostBases}
 use Rattle.limits.specs.Refusals.{ownRefusal}
-use Rattle.limits.specs.Refusals.Laws.{own-passes}
 use Rattle.lists.specs.Choice.{or}
 use Rattle.lists.specs.Choice.Laws.{choose-yes, choose-no, or-first, first-none, first-given}
 use Rattle.base_identifiers.specs.Identifiers.{isNamed, idNumber}
@@ -33,21 +32,16 @@ module _ (ids : List ℕ) (v : ℕ) where
   named-none zero h = refl
   named-none (suc b) h = absurd (omega arith)
 
-  pub no-identifier : v ≡ 0 → 3 ≡ idNumber ids v
-  unfolding idNumber
-  no-identifier e = let own = three e in sym (first-given _ (λ z. omega arith) ∙ own)
-    where
-      three : v ≡ 0 → ownRefusal v ≡ 3
-      three e = unfold ownRefusal in choose-yes 3 0 (eq-eqb v 0 e)
+  -- 3, and where that is not given 14
+  module _ {own : ℕ} (given : own ≡ ownRefusal v) where
+    pub no-identifier : (own ≡ 0 → ⊥) → own ≡ idNumber ids v
+    unfolding idNumber
+    no-identifier n = given ∙ sym (first-given _ (λ z. n (given ∙ z)))
 
-  -- an identifier above zero
-  some : (v ≡ 0 → ⊥) → ownRefusal v ≡ 0
-  some n = own-passes (omega arith)
+    pub two-owners : own ≡ 0 → {r : Bool} → r ≡ isNamed mostBases ids v → r ≡ true → 14 ≡ idNumber ids v
+    unfolding idNumber
+    two-owners none e y = sym (first-none _ (sym given ∙ none) ∙ choose-yes 14 0 (sym e ∙ y))
 
-  pub two-owners : (v ≡ 0 → ⊥) → {r : Bool} → r ≡ isNamed mostBases ids v → r ≡ true → 14 ≡ idNumber ids v
-  unfolding idNumber
-  two-owners n e y = sym (first-none _ (some n) ∙ choose-yes 14 0 (sym e ∙ y))
-
-  pub one-owner : (v ≡ 0 → ⊥) → {r : Bool} → r ≡ isNamed mostBases ids v → r ≡ false → 0 ≡ idNumber ids v
-  unfolding idNumber
-  one-owner n e y = sym (first-none _ (some n) ∙ choose-no 14 0 (sym e ∙ y))
+    pub one-owner : own ≡ 0 → {r : Bool} → r ≡ isNamed mostBases ids v → r ≡ false → 0 ≡ idNumber ids v
+    unfolding idNumber
+    one-owner none e y = sym (first-none _ (sym given ∙ none) ∙ choose-no 14 0 (sym e ∙ y))

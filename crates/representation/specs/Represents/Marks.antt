@@ -1,4 +1,4 @@
--- The markRoom of carries: one is set, and every other stays as it was.
+-- The marks of carries: one is set, and every other stays as it was.
 use Prim.Native.Nat.{ℕ, _-_, _<_}
 use mathlib.Core.Path.{_≡_, refl, sym, ap, _∙_}
 use mathlib.Core.Bool.{Bool, true, false, not}
@@ -31,7 +31,7 @@ unfolding marked
 marked-sized v a k Z =
     choose-ind SizedNode _ (λ _. record { frames = Z .frames; heard = length-set (v .heard) (markPlace a k) 1 ∙ Z .heard }) (λ _. Z)
 
--- ---- each mark has its own markPlace
+-- ---- each mark has its own place
 place-below : (a k : ℕ) → inRange a mostBases ≡ true → inRange k mostBroadcasts ≡ true → markPlace a k < markRoom
 unfolding markPlace
 place-below a k A K = omega (arith, within-range a mostBases A, within-range k mostBroadcasts K)

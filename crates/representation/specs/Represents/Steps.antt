@@ -55,7 +55,7 @@ marks-sized (starts b room) v Z = Z
 marks-sized (carry a b k room) v Z = marked-sized v a k Z
 marks-sized (forge a b bytes room) v Z = Z
 
--- a carry has a markPlace for its mark
+-- a carry has a place for its mark
 abbrev pub HasPlace : Event → Type 0
 HasPlace (starts b room) = Unit {0}
 HasPlace (carry a b k room) = (inRange a mostBases ≡ true) × (inRange k mostBroadcasts ≡ true)
