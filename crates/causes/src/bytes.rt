@@ -1,68 +1,68 @@
 // Bytes of a line, counted and looked for.
 use output::parts::plus;
-use output::prints;
 
 // Which bytes are looked for.
 pub(crate) const SPACE: u8 = 0;
 
 pub(crate) const LINE_FEED: u8 = 1;
 
-pub(crate) const NO_DIGIT: u8 = 2;
+pub(crate) const COMMENT: u8 = 2;
 
-pub(crate) const NO_HEX_DIGIT: u8 = 3;
+pub(crate) const CAPITAL: u8 = 3;
 
-pub(crate) const CAPITAL: u8 = 4;
+pub(crate) const NO_DIGIT: u8 = 4;
 
-pub(crate) const COMMENT: u8 = 5;
+pub(crate) const NO_HEX_DIGIT: u8 = 5;
 
 pub(crate) const NOT_PRINTING: u8 = 6;
 
-fn is_digit(b: u8) -> bool {
-    if b < b'0' {
+fn within(b: u8, least: u8, most: u8) -> bool {
+    if b < least {
         return false;
     }
-    b <= b'9'
+    b <= most
 }
 
-fn is_hex_digit(b: u8) -> bool {
-    if is_digit(b) {
-        return true;
-    }
-    if b < b'a' {
-        return false;
-    }
-    b <= b'f'
-}
-
-fn is_capital(b: u8) -> bool {
-    if b < b'A' {
-        return false;
-    }
-    b <= b'Z'
-}
-
+// A digit of hex is a digit or a letter, and never both.
 fn is_wanted(b: u8, wanted: u8) -> bool {
     match wanted {
         SPACE => b == b' ',
         LINE_FEED => b == b'\n',
-        NO_DIGIT => !is_digit(b),
-        NO_HEX_DIGIT => !is_hex_digit(b),
-        CAPITAL => is_capital(b),
         COMMENT => b == b'#',
-        _ => !prints(b),
+        CAPITAL => within(b, b'A', b'Z'),
+        NO_DIGIT => !within(b, b'0', b'9'),
+        NO_HEX_DIGIT => within(b, b'0', b'9') == within(b, b'a', b'f'),
+        _ => !within(b, b' ', b'~'),
     }
 }
 
-// The first place of such a byte, or the length where there is none.
-pub(crate) fn place_of(bytes: &[u8], wanted: u8) -> usize {
+// The place of such a byte behind so many others of them, or the length where there is none.
+fn place_behind(bytes: &[u8], wanted: u8, count: usize) -> usize {
+    let mut left = count;
     let mut i: usize = 0;
     while i < bytes.len() {
         if is_wanted(bytes[i], wanted) {
-            return i;
+            if left == 0 {
+                return i;
+            }
+            left -= 1;
         }
         i += 1;
     }
     i
+}
+
+// The first place of such a byte, or the length where there is none.
+pub(crate) fn place_of(bytes: &[u8], wanted: u8) -> usize {
+    place_behind(bytes, wanted, 0)
+}
+
+// The place behind so many such bytes, past the end where there are fewer.
+pub(crate) fn behind(bytes: &[u8], wanted: u8, count: usize) -> usize {
+    if count == 0 {
+        return 0;
+    }
+    plus(place_behind(bytes, wanted, count - 1), 1)
 }
 
 pub(crate) fn spaces(line: &[u8]) -> usize {
@@ -77,30 +77,14 @@ pub(crate) fn spaces(line: &[u8]) -> usize {
     count
 }
 
-// The place behind so many such bytes, or the length where there are fewer.
-pub(crate) fn behind(bytes: &[u8], wanted: u8, count: usize) -> usize {
-    let mut left = count;
-    let mut i: usize = 0;
-    while i < bytes.len() {
-        if left == 0 {
-            return i;
-        }
-        if is_wanted(bytes[i], wanted) {
-            left -= 1;
-        }
-        i += 1;
-    }
-    i
-}
-
-// The first place of two spaces that stand together, or the length where there are none.
-pub(crate) fn two_spaces(line: &[u8]) -> usize {
-    let mut before = false;
+// The first place of a space that has no word before it, or the length where there is none.
+pub(crate) fn odd_space(line: &[u8]) -> usize {
+    let mut before = true;
     let mut i: usize = 0;
     while i < line.len() {
         let space = line[i] == b' ';
-        if before {
-            if space {
+        if space {
+            if before {
                 return i;
             }
         }
@@ -108,18 +92,4 @@ pub(crate) fn two_spaces(line: &[u8]) -> usize {
         i += 1;
     }
     i
-}
-
-// Whether every second byte is zero, from the first on where the remainder is 0 and else from the second, and no other byte.
-pub(crate) fn alternates(bytes: &[u8], remainder: usize) -> bool {
-    let mut i: usize = 0;
-    while i < bytes.len() {
-        let zero = bytes[i] == 0;
-        let wanted = i % 2 == remainder;
-        if zero != wanted {
-            return false;
-        }
-        i += 1;
-    }
-    true
 }

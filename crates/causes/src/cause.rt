@@ -1,52 +1,43 @@
 // A cause: a sentence and what is put into it.
 use crate::sentences::NONE;
+use output::parts::plus;
 
 pub(crate) struct Cause {
     // Its row.
-    pub sentence: u8,
-    pub number: usize,
-    pub other: usize,
-    // A field of the line.
+    pub sentence: usize,
+    // Of the line, its word the first.
     pub field: usize,
-    // A part of the line.
-    pub from: usize,
-    pub len: usize,
+    pub number: usize,
 }
 
-pub(crate) fn said(sentence: u8) -> Cause {
-    counted(sentence, 0)
-}
-
-pub(crate) fn counted(sentence: u8, number: usize) -> Cause {
+pub(crate) fn of_field(sentence: usize, field: usize, number: usize) -> Cause {
     Cause {
         sentence,
+        field,
         number,
-        other: 0,
-        field: 0,
-        from: 0,
-        len: 0,
     }
 }
 
-pub(crate) fn both(sentence: u8, number: usize, other: usize) -> Cause {
-    let mut cause = counted(sentence, number);
-    cause.other = other;
-    cause
+pub(crate) fn counted(sentence: usize, number: usize) -> Cause {
+    of_field(sentence, 0, number)
 }
 
-pub(crate) fn of_field(sentence: u8, i: usize, number: usize) -> Cause {
-    let mut cause = counted(sentence, number);
-    cause.field = i;
-    cause
+pub(crate) fn said(sentence: usize) -> Cause {
+    of_field(sentence, 0, 0)
 }
 
-pub(crate) fn of_part(sentence: u8, number: usize, from: usize, len: usize) -> Cause {
-    let mut cause = counted(sentence, number);
-    cause.from = from;
-    cause.len = len;
-    cause
-}
-
-pub(crate) fn none() -> Cause {
+// The byte at a place of the line; no cause where the line ends there.
+pub(crate) fn of_byte(sentence: usize, line: &[u8], place: usize) -> Cause {
+    if place < line.len() {
+        return counted(sentence, plus(place, 1));
+    }
     said(NONE)
+}
+
+// The first, or else the second.
+pub(crate) fn or(first: Cause, second: Cause) -> Cause {
+    if first.sentence == NONE {
+        return second;
+    }
+    first
 }

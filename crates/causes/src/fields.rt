@@ -9,11 +9,10 @@ use crate::bytes::behind;
 use crate::bytes::place_of;
 use crate::bytes::spaces;
 use crate::cause::Cause;
-use crate::cause::both;
 use crate::cause::counted;
-use crate::cause::none;
+use crate::cause::of_byte;
 use crate::cause::of_field;
-use crate::cause::of_part;
+use crate::cause::or;
 use crate::cause::said;
 use crate::forms::CARRY;
 use crate::forms::FAULTY;
@@ -27,14 +26,18 @@ use crate::line::value;
 use crate::sentences;
 use crate::sentences::NONE;
 use limits::LONGEST_FORGERY;
+use output::parts::between;
 use output::parts::plus;
 use text::number::Number;
 use text::number::number_at;
 
-// What keeps a field from being a decimal number without leading zeros, at most 4,294,967,295.
-fn number_fault(bytes: &[u8]) -> u8 {
+// What keeps a field that is there from being a decimal number without leading zeros, at most 4,294,967,295.
+fn number_fault(bytes: &[u8]) -> usize {
     if place_of(bytes, NO_DIGIT) < bytes.len() {
         return sentences::NOT_DIGITS;
+    }
+    if bytes.len() == 0 {
+        return NONE;
     }
     let Number::Value(_, next) = number_at(bytes, 0) else {
         return sentences::TOO_LARGE;
@@ -49,11 +52,7 @@ fn decimal(line: &[u8], i: usize) -> Cause {
     of_field(number_fault(field(line, i)), i, 0)
 }
 
-// A base of the net.
 fn is_base(line: &[u8], i: usize, n: usize) -> bool {
-    if number_fault(field(line, i)) != NONE {
-        return false;
-    }
     let b = value(line, i);
     if 0 < b {
         return b <= n;
@@ -61,163 +60,102 @@ fn is_base(line: &[u8], i: usize, n: usize) -> bool {
     false
 }
 
-// Both bases stand there, so that of a forgery the bytes alone are missing, with their space.
-fn only_hex_missing(kind: u8, line: &[u8], n: usize) -> bool {
+// What is told of hex behind the count of fields: the bytes may be missing with their space.
+pub(crate) fn hex_hint(kind: usize, line: &[u8], n: usize) -> Cause {
+    let count = spaces(line);
     if kind != FORGE {
-        return false;
+        return said(NONE);
     }
-    if spaces(line) != 2 {
-        return false;
+    if 3 < count {
+        return said(sentences::HEX_TOGETHER);
     }
-    if is_base(line, 1, n) {
-        return is_base(line, 2, n);
+    if count == 2 {
+        if is_base(line, 2, n) {
+            return said(sentences::SPACE_BEFORE_HEX);
+        }
     }
-    false
+    said(NONE)
 }
 
-// What is told of hex behind the count of fields.
-pub(crate) fn hex_hint(kind: u8, line: &[u8], n: usize) -> Cause {
-    if only_hex_missing(kind, line, n) {
-        return said(sentences::SPACE_BEFORE_HEX);
-    }
-    if kind != FORGE {
-        return none();
-    }
-    if spaces(line) <= 3 {
-        return none();
-    }
-    said(sentences::HEX_TOGETHER)
-}
-
-// A digit of hex that there is not; place_of tells a capital from any other.
-fn hex_digit(line: &[u8], digits: &[u8], place: usize) -> Cause {
+// A digit of hex that there is not.
+fn hex_digit(line: &[u8]) -> Cause {
+    let digits = field(line, 3);
+    let place = place_of(digits, NO_HEX_DIGIT);
     let mut sentence = sentences::NO_HEX_DIGIT;
     if place_of(digits, CAPITAL) == place {
         sentence = sentences::CAPITAL_DIGIT;
     }
-    let at = plus(behind(line, SPACE, 3), place);
-    of_part(sentence, plus(place, 1), at, 1)
+    of_byte(sentence, line, plus(behind(line, SPACE, 3), place))
 }
 
-// Two digits a byte, small letters, as many as a line can forge.
-fn hex(line: &[u8]) -> Cause {
-    let digits = field(line, 3);
-    let place = place_of(digits, NO_HEX_DIGIT);
-    if place < digits.len() {
-        return hex_digit(line, digits, place);
-    }
-    if 2 * LONGEST_FORGERY < digits.len() {
+// Two digits a byte, as many as a line can forge.
+fn hex_length(length: usize) -> Cause {
+    if 2 * LONGEST_FORGERY < length {
         return counted(sentences::TOO_MANY_BYTES, LONGEST_FORGERY);
     }
-    if digits.len() % 2 == 1 {
-        return counted(sentences::ODD_DIGITS, digits.len());
+    if length % 2 == 1 {
+        return counted(sentences::ODD_DIGITS, length);
     }
-    none()
+    said(NONE)
 }
 
-fn third(kind: u8, line: &[u8]) -> Cause {
-    match kind {
-        CARRY => decimal(line, 3),
-        FORGE => hex(line),
-        _ => none(),
+fn third(kind: usize, line: &[u8]) -> Cause {
+    if kind == FORGE {
+        return or(hex_digit(line), hex_length(field(line, 3).len()));
     }
-}
-
-fn second(kind: u8, line: &[u8]) -> Cause {
-    if kind == START {
-        return none();
-    }
-    let cause = decimal(line, 2);
-    if cause.sentence != NONE {
-        return cause;
-    }
-    third(kind, line)
-}
-
-// Each field by itself.
-fn each(kind: u8, line: &[u8]) -> Cause {
-    let cause = decimal(line, 1);
-    if cause.sentence != NONE {
-        return cause;
-    }
-    second(kind, line)
+    decimal(line, 3)
 }
 
 fn base(line: &[u8], i: usize, n: usize) -> Cause {
     if is_base(line, i, n) {
-        return none();
+        return said(NONE);
     }
     of_field(sentences::NO_BASE, i, n)
 }
 
 // Two different bases of the net.
 fn bases(line: &[u8], n: usize) -> Cause {
-    if !is_base(line, 1, n) {
-        return base(line, 1, n);
-    }
-    if !is_base(line, 2, n) {
-        return base(line, 2, n);
-    }
+    let both = or(base(line, 1, n), base(line, 2, n));
     if value(line, 1) == value(line, 2) {
-        return said(sentences::SAME_BASE);
+        return or(both, said(sentences::SAME_BASE));
     }
-    none()
+    both
 }
 
-fn carry(line: &[u8], n: usize) -> Cause {
-    let cause = bases(line, n);
-    if cause.sentence != NONE {
-        return cause;
-    }
-    said(sentences::NUMBER_ZERO)
-}
-
-fn faulty(s: &[u8], line: &[u8], refused: RefusedLine) -> Cause {
-    let cause = bases(line, refused.n);
-    if cause.sentence != NONE {
-        return cause;
-    }
+fn faulty(s: &[u8], line: &[u8]) -> Cause {
     if value(line, 2) < value(line, 1) {
         return said(sentences::LARGER_FIRST);
     }
-    counted(sentences::LINK_AGAIN, first_alike(s, refused.at, 0))
+    counted(sentences::LINK_AGAIN, first_alike(s, line, 0))
 }
 
-// In its header's line, or behind them all.
+// In the header, or behind it.
 fn id(line: &[u8], number: usize, n: usize) -> Cause {
-    if number < 1 {
-        return none();
+    if number <= plus(n, 1) {
+        return of_field(sentences::OTHER_BASE, 1, between(0, number));
     }
-    if number - 1 <= n {
-        return of_field(sentences::OTHER_BASE, 1, number - 1);
-    }
-    if !is_base(line, 1, n) {
-        return base(line, 1, n);
-    }
-    let b = value(line, 1);
-    both(sentences::ID_AGAIN, b, plus(b, 1))
+    let again = of_field(sentences::ID_AGAIN, 1, plus(value(line, 1), 1));
+    or(base(line, 1, n), again)
 }
 
 // The fields together, and held against the net.
-fn together(kind: u8, s: &[u8], line: &[u8], refused: RefusedLine) -> Cause {
+fn together(kind: usize, s: &[u8], line: &[u8], refused: RefusedLine) -> Cause {
+    let n = refused.n;
     match kind {
-        NET => none(),
-        ID => id(line, refused.number, refused.n),
-        FAULTY => faulty(s, line, refused),
-        START => base(line, 1, refused.n),
-        CARRY => carry(line, refused.n),
-        _ => bases(line, refused.n),
+        NET => said(NONE),
+        ID => id(line, refused.number, n),
+        FAULTY => or(bases(line, n), faulty(s, line)),
+        START => base(line, 1, n),
+        CARRY => or(bases(line, n), said(sentences::NUMBER_ZERO)),
+        _ => bases(line, n),
     }
 }
 
-pub(crate) fn fields(kind: u8, s: &[u8], line: &[u8], refused: RefusedLine) -> Cause {
+pub(crate) fn fields(kind: usize, s: &[u8], line: &[u8], refused: RefusedLine) -> Cause {
     let count = spaces(line);
     if count != asked(kind) {
         return counted(sentences::FIELD_COUNT, count);
     }
-    let cause = each(kind, line);
-    if cause.sentence != NONE {
-        return cause;
-    }
-    together(kind, s, line, refused)
+    let numbers = or(decimal(line, 1), or(decimal(line, 2), third(kind, line)));
+    or(numbers, together(kind, s, line, refused))
 }

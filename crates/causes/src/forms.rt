@@ -15,40 +15,38 @@ carry a b k
 forge a b hex
 ";
 
-pub(crate) const NET: u8 = 1;
+pub(crate) const NET: usize = 1;
 
-pub(crate) const ID: u8 = 2;
+pub(crate) const ID: usize = 2;
 
-pub(crate) const FAULTY: u8 = 3;
+pub(crate) const FAULTY: usize = 3;
 
-pub(crate) const START: u8 = 4;
+pub(crate) const START: usize = 4;
 
-pub(crate) const CARRY: u8 = 5;
+pub(crate) const CARRY: usize = 5;
 
-pub(crate) const FORGE: u8 = 6;
+pub(crate) const FORGE: usize = 6;
 
-pub(crate) fn form(kind: u8) {
-    text(b"`");
-    text(row(&FORMS, kind as usize));
-    text(b"`");
-}
-
-// How many fields stand behind the word.
-pub(crate) fn asked(kind: u8) -> usize {
-    spaces(row(&FORMS, kind as usize))
+pub(crate) fn form(kind: usize) {
+    text(row(&FORMS, kind));
 }
 
 // The name of field i.
-pub(crate) fn name(kind: u8, i: usize) {
-    text(field(row(&FORMS, kind as usize), i));
+pub(crate) fn name(kind: usize, i: usize) {
+    text(field(row(&FORMS, kind), i));
+}
+
+// How many fields stand behind the word.
+pub(crate) fn asked(kind: usize) -> usize {
+    spaces(row(&FORMS, kind))
 }
 
 // Which line it is by its word; 0 where there is no such word.
-pub(crate) fn kind_of(line: &[u8]) -> u8 {
-    let mut kind: u8 = 0;
+pub(crate) fn kind_of(line: &[u8]) -> usize {
+    let mut kind: usize = 0;
     while kind < FORGE {
         kind += 1;
-        if is_same(field(row(&FORMS, kind as usize), 0), field(line, 0)) {
+        if is_same(field(row(&FORMS, kind), 0), field(line, 0)) {
             return kind;
         }
     }

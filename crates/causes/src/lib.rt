@@ -3,6 +3,7 @@
 mod alike;
 mod bytes;
 mod cause;
+mod encoding;
 mod fields;
 mod form;
 mod forms;
@@ -13,21 +14,18 @@ mod sentences;
 mod tell;
 
 use crate::cause::Cause;
-use crate::cause::none;
+use crate::cause::counted;
+use crate::cause::said;
 use crate::fields::hex_hint;
 use crate::form::belongs;
 use crate::form::form_cause;
 use crate::forms::kind_of;
 use crate::line::line_at;
-use crate::meanings::meaning;
 use crate::numbers::number_cause;
 use crate::sentences::ENDS_BEFORE;
 use crate::sentences::FIELD_COUNT;
-use crate::tell::cut;
 use crate::tell::tell;
 use limits::refusal::FORM;
-use output::number;
-use output::text;
 
 // A line that is refused, and what the lines before it have told.
 pub struct RefusedLine {
@@ -44,7 +42,7 @@ pub struct RefusedLine {
     pub broadcasts: usize,
 }
 
-fn cause_of(kind: u8, s: &[u8], line: &[u8], refused: RefusedLine) -> Cause {
+fn cause_of(kind: usize, s: &[u8], line: &[u8], refused: RefusedLine) -> Cause {
     if refused.refusal == FORM {
         return form_cause(kind, s, line, refused);
     }
@@ -52,27 +50,22 @@ fn cause_of(kind: u8, s: &[u8], line: &[u8], refused: RefusedLine) -> Cause {
 }
 
 // What is told behind a cause.
-fn further(sentence: u8, kind: u8, line: &[u8], refused: RefusedLine) -> Cause {
+fn further(sentence: usize, kind: usize, line: &[u8], number: usize, n: usize) -> Cause {
     match sentence {
-        ENDS_BEFORE => belongs(refused),
-        FIELD_COUNT => hex_hint(kind, line, refused.n),
-        _ => none(),
+        ENDS_BEFORE => belongs(number),
+        FIELD_COUNT => hex_hint(kind, line, n),
+        _ => said(sentences::NONE),
     }
 }
 
 pub fn explain(s: &[u8], refused: RefusedLine) {
     let line = line_at(s, refused.at);
     let kind = kind_of(line);
-    text(b"line ");
-    number(refused.number);
-    text(b": ");
-    cut(line);
-    text(b"\n  refused by ");
-    number(refused.refusal as usize);
-    text(b", ");
-    meaning(refused.refusal);
-    text(b"\n");
+    tell(counted(sentences::HEAD, refused.number), kind, line);
+    let refusal = refused.refusal as usize;
+    tell(counted(sentences::NUMBER, refusal), kind, line);
     let cause = cause_of(kind, s, line, refused);
     tell(cause, kind, line);
-    tell(further(cause.sentence, kind, line, refused), kind, line);
+    let more = further(cause.sentence, kind, line, refused.number, refused.n);
+    tell(more, kind, line);
 }

@@ -20,30 +20,35 @@ pub(crate) fn row<'a>(table: &'a [u8], i: usize) -> &'a [u8] {
     line_at(table, behind(table, LINE_FEED, i))
 }
 
-// Field 0 is the line's word.
-pub(crate) fn field<'a>(line: &'a [u8], i: usize) -> &'a [u8] {
-    let rest = part(line, behind(line, SPACE, i), line.len());
-    part(rest, 0, place_of(rest, SPACE))
+// The line from field i on.
+pub(crate) fn fields_from<'a>(line: &'a [u8], i: usize) -> &'a [u8] {
+    part(line, behind(line, SPACE, i), line.len())
 }
 
-pub(crate) fn begins(bytes: &[u8], with: &[u8]) -> bool {
-    if let Word::Past(_) = word_at(bytes, 0, with) {
-        return true;
-    }
-    false
+// Field 0 is the line's word.
+pub(crate) fn field<'a>(line: &'a [u8], i: usize) -> &'a [u8] {
+    let rest = fields_from(line, i);
+    part(rest, 0, place_of(rest, SPACE))
 }
 
 pub(crate) fn is_same(one: &[u8], other: &[u8]) -> bool {
     if one.len() != other.len() {
         return false;
     }
-    begins(one, other)
+    if let Word::Past(_) = word_at(one, 0, other) {
+        return true;
+    }
+    false
 }
 
 // The number that a field is; 0 where it is none.
 pub(crate) fn value(line: &[u8], i: usize) -> usize {
-    let Number::Value(v, _) = number_at(field(line, i), 0) else {
+    let digits = field(line, i);
+    let Number::Value(v, next) = number_at(digits, 0) else {
         return 0;
     };
+    if next < digits.len() {
+        return 0;
+    }
     v as usize
 }

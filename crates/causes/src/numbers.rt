@@ -2,9 +2,7 @@
 use crate::RefusedLine;
 use crate::alike::first_alike;
 use crate::cause::Cause;
-use crate::cause::both;
 use crate::cause::counted;
-use crate::cause::none;
 use crate::cause::of_field;
 use crate::cause::said;
 use crate::line::value;
@@ -23,59 +21,32 @@ fn most_faulty(n: usize) -> usize
     (n - 2) / 2
 }
 
-fn faulty_limit(line: &[u8]) -> Cause {
-    let n = value(line, 1);
-    let mut cause = both(sentences::ABOVE_LIMIT, most_faulty(n), n);
-    cause.field = 2;
-    cause
-}
-
-// The line of base b is line b + 1.
-fn same_identifier(s: &[u8], at: usize) -> Cause {
-    let first = first_alike(s, at, 2);
-    if 1 < first {
-        return counted(sentences::IDENTIFIER_AGAIN, first);
-    }
-    none()
-}
-
-fn good_link(line: &[u8]) -> Cause {
-    let a = value(line, 1);
-    let b = value(line, 2);
-    if a < b {
-        return both(sentences::GOOD_LINK, a, b);
-    }
-    both(sentences::GOOD_LINK, b, a)
-}
-
+// The row of no link, of one or of more.
 fn too_many(t: usize) -> Cause {
-    if t == 0 {
-        return said(sentences::NONE_FAULTY);
+    if t < 2 {
+        return counted(sentences::NONE_FAULTY + t, t);
     }
-    counted(sentences::TOO_MANY_FAULTY, t)
+    counted(sentences::NONE_FAULTY + 2, t)
 }
 
-fn event(s: &[u8], line: &[u8], refused: RefusedLine) -> Cause {
-    let number = refused.refusal;
-    match number {
-        refusal::FAULTY_LINKS => too_many(refused.t),
-        refusal::NOT_BROADCAST => both(
-            sentences::TOO_FEW_BROADCASTS,
-            refused.broadcasts,
-            value(line, 1),
-        ),
-        refusal::CARRIED_BEFORE => counted(sentences::CARRY_AGAIN, first_alike(s, refused.at, 0)),
-        _ => good_link(line),
+// The smaller base, and the field of the larger.
+fn good_link(a: usize, b: usize) -> Cause {
+    if a < b {
+        return of_field(sentences::GOOD_LINK, 2, a);
     }
+    of_field(sentences::GOOD_LINK, 1, b)
 }
 
 pub(crate) fn number_cause(s: &[u8], line: &[u8], refused: RefusedLine) -> Cause {
     let number = refused.refusal;
     match number {
         refusal::BASES => of_field(sentences::WRONG_NUMBER, 1, 0),
-        refusal::FAULTY_LIMIT => faulty_limit(line),
+        refusal::FAULTY_LIMIT => of_field(sentences::ABOVE_LIMIT, 2, most_faulty(value(line, 1))),
         refusal::OWN_IDENTIFIER => said(sentences::IDENTIFIER_ZERO),
-        refusal::SAME_IDENTIFIER => same_identifier(s, refused.at),
-        _ => event(s, line, refused),
+        refusal::SAME_IDENTIFIER => counted(sentences::IDENTIFIER_AGAIN, first_alike(s, line, 2)),
+        refusal::FAULTY_LINKS => too_many(refused.t),
+        refusal::NOT_BROADCAST => of_field(sentences::TOO_FEW_BROADCASTS, 1, refused.broadcasts),
+        refusal::CARRIED_BEFORE => counted(sentences::CARRY_AGAIN, first_alike(s, line, 0)),
+        _ => good_link(value(line, 1), value(line, 2)),
     }
 }

@@ -4,10 +4,13 @@ use crate::forms::form;
 use crate::forms::name;
 use crate::line::field;
 use crate::line::row;
+use crate::line::value;
+use crate::meanings::meaning;
 use crate::sentences::NONE;
 use crate::sentences::SENTENCES;
 use limits::LONGEST_SCHEDULE;
 use output::number;
+use output::parts::between;
 use output::parts::part;
 use output::text;
 use output::visible;
@@ -16,11 +19,8 @@ use output::visible;
 const SHOWN: usize = 80;
 const LAST: usize = 20;
 
-// The digit of a number that counts so many.
-fn digit(v: usize, of: usize) {
-    if 0 < of {
-        text(&[b'0' + (v / of % 10) as u8]);
-    }
+fn digit(v: usize) -> u8 {
+    b'0' + (v % 10) as u8
 }
 
 // `65,536`, as the limits are written
@@ -29,20 +29,17 @@ fn length(v: usize) {
         return number(v);
     }
     number(v / 1000);
-    text(b",");
-    digit(v, 100);
-    digit(v, 10);
-    digit(v, 1);
+    text(&[b',', digit(v / 100), digit(v / 10), digit(v)]);
 }
 
 // The last bytes of a line that is cut. Of a schedule that is too long no more is read than shows that it is.
 fn last(bytes: &[u8]) {
-    if LONGEST_SCHEDULE < bytes.len() {
-        return;
-    }
-    text(b" ");
-    if LAST < bytes.len() {
-        visible(part(bytes, bytes.len() - LAST, LAST));
+    text(b" ...");
+    if bytes.len() <= LONGEST_SCHEDULE {
+        text(b" ");
+        if LAST < bytes.len() {
+            visible(part(bytes, bytes.len() - LAST, LAST));
+        }
     }
 }
 
@@ -52,36 +49,32 @@ fn seen(bytes: &[u8]) {
         return visible(bytes);
     }
     visible(part(bytes, 0, SHOWN - LAST));
-    text(b" ...");
     last(bytes);
 }
 
 // How long a line is that is cut.
-fn size(bytes: &[u8]) {
-    if bytes.len() <= SHOWN {
+fn size(count: usize) {
+    if count <= SHOWN {
         return;
     }
-    text(b" (");
-    if LONGEST_SCHEDULE < bytes.len() {
-        text(b"more than 65,536");
-    } else {
-        length(bytes.len());
+    if LONGEST_SCHEDULE < count {
+        return text(b" (more than 65,536 bytes)");
     }
+    text(b" (");
+    length(count);
     text(b" bytes)");
 }
 
-// A line, such that every byte is seen, and not too long.
-pub(crate) fn cut(bytes: &[u8]) {
-    seen(bytes);
-    size(bytes);
+fn line_itself(line: &[u8]) {
+    seen(line);
+    size(line.len());
 }
 
-// A part of a line as it stands.
 fn quoted(bytes: &[u8]) {
     text(b"`");
     seen(bytes);
     text(b"`");
-    size(bytes);
+    size(bytes.len());
 }
 
 // `1 field`, `2 fields`
@@ -91,35 +84,23 @@ fn plural(count: usize) {
     }
 }
 
-// `1 is`, `2 are`
-fn verb(count: usize) {
-    if count == 1 {
-        return text(b"is");
-    }
-    text(b"are")
-}
-
-fn field_is(kind: u8, line: &[u8], i: usize) {
-    name(kind, i);
-    text(b" is ");
-    quoted(field(line, i));
-}
-
 // What a byte of a sentence stands for, or else the byte itself.
-fn put(sign: u8, cause: Cause, kind: u8, line: &[u8]) {
+fn put(sign: u8, cause: Cause, kind: usize, line: &[u8]) {
     match sign {
         b'#' => number(cause.number),
-        b'&' => number(cause.other),
         b'~' => plural(cause.number),
-        b'!' => verb(cause.number),
-        b'@' => field_is(kind, line, cause.field),
-        b'%' => quoted(part(line, cause.from, cause.len)),
+        b'@' => name(kind, cause.field),
+        b'&' => quoted(field(line, cause.field)),
+        b'^' => number(value(line, cause.field)),
+        b'%' => quoted(part(line, between(0, cause.number), 1)),
         b'$' => form(kind),
+        b'*' => line_itself(line),
+        b'+' => meaning(cause.number),
         _ => text(&[sign]),
     }
 }
 
-fn sentence(words: &[u8], cause: Cause, kind: u8, line: &[u8]) {
+fn sentence(words: &[u8], cause: Cause, kind: usize, line: &[u8]) {
     let mut i: usize = 0;
     while i < words.len() {
         put(words[i], cause, kind, line);
@@ -128,11 +109,10 @@ fn sentence(words: &[u8], cause: Cause, kind: u8, line: &[u8]) {
 }
 
 // A line of its own; nothing where there is no cause to name.
-pub(crate) fn tell(cause: Cause, kind: u8, line: &[u8]) {
+pub(crate) fn tell(cause: Cause, kind: usize, line: &[u8]) {
     if cause.sentence == NONE {
         return;
     }
-    text(b"  ");
-    sentence(row(&SENTENCES, cause.sentence as usize), cause, kind, line);
+    sentence(row(&SENTENCES, cause.sentence), cause, kind, line);
     text(b"\n");
 }

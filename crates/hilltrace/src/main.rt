@@ -96,7 +96,7 @@ fn main() {
     if 1 < os::arg_count() {
         io::write_all(
             STDERR_FILENO,
-            b"hilltrace: no argument is taken; the schedule is read from standard input, as --help says\n",
+            b"hilltrace: no argument is taken; the schedule is read from standard input; --help says more\n",
         );
         return;
     }

@@ -108,7 +108,7 @@ fn refused(b: u8, arrival: Arrival, burst: &[u8], number: u8) {
     on_link(arrival, b": refused by ");
     output::number(number as usize);
     output::text(b", ");
-    meaning(number);
+    meaning(number as usize);
     trailer(number, burst);
     output::text(b"\n");
 }

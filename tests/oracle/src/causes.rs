@@ -29,8 +29,8 @@ pub fn told(schedule: &[u8], refused: Refused) -> (String, Vec<String>) {
         13 if schedule.len() > LONGEST_SCHEDULE => vec!["the schedule has more than 65,536 bytes".to_string()],
         13 if all.len() < refused.line => vec![format!("the schedule ends before line {}", refused.line), line.belongs()],
         13 => {
-            let next = all.get(refused.line).copied().unwrap_or_default();
-            let cause = encoding(here, next).or_else(|| comment(here)).or_else(|| bytes(here));
+            let at = all.iter().take(refused.line - 1).map(|line| line.len()).sum();
+            let cause = encoding(&schedule[at..]).or_else(|| comment(here)).or_else(|| bytes(here));
             cause.map_or_else(|| line.form(here.ends_with(b"\n")), |cause| vec![cause])
         }
         number => vec![line.cause(number, schedule)],
@@ -88,16 +88,15 @@ fn counted(count: usize, thing: &str) -> String {
     format!("{count} {thing}{}", if count == 1 { "" } else { "s" })
 }
 
-/// What an editor puts before a text, or makes of it. Of an empty line in UTF-16 the next one tells it.
-fn encoding(line: &[u8], next: &[u8]) -> Option<String> {
-    let [line, next] = [line, next].map(|line| line.strip_suffix(b"\n").unwrap_or(line));
-    if line.starts_with(b"\xef\xbb\xbf") {
+/// What an editor puts before a text, or makes of it; of an empty line in UTF-16 the next one tells it. From the line's beginning on.
+fn encoding(text: &[u8]) -> Option<String> {
+    if text.starts_with(b"\xef\xbb\xbf") {
         return Some("a byte-order mark (\\xef\\xbb\\xbf) stands at the beginning".to_string());
     }
-    let text = [b"\xff\xfe", b"\xfe\xff"].iter().find_map(|mark| line.strip_prefix(*mark)).unwrap_or(line);
-    let text = if text.len() < 2 { next } else { text };
-    let zeros = |first| text.iter().enumerate().all(|(i, &byte)| (byte == 0) == (i % 2 == first));
-    (text.len() >= 4 && (zeros(0) || zeros(1))).then(|| "the text is in UTF-16, and each sign of a line is one byte".to_string())
+    let zeros = |from| text.get(from..from + 4).map(|four| [0, 1, 2, 3].map(|i| four[i] == 0));
+    let wide = |from| [[true, false, true, false], [false, true, false, true]].map(Some).contains(&zeros(from));
+    // without a mark, or behind one
+    (wide(0) || wide(2)).then(|| "the text is in UTF-16, and each sign of a line is one byte".to_string())
 }
 
 fn comment(line: &[u8]) -> Option<String> {
@@ -109,8 +108,6 @@ fn comment(line: &[u8]) -> Option<String> {
 fn bytes(line: &[u8]) -> Option<String> {
     let place = line.iter().position(|byte| !(b' '..=b'~').contains(byte)).filter(|&place| line[place] != b'\n')?;
     Some(match &line[place..] {
-        b"\r\n" => "a carriage return (\\r) stands before the line feed".to_string(),
-        b"\r" => "a carriage return (\\r) stands at the end, and no line feed".to_string(),
         [b'\r', ..] => format!("byte {} is a carriage return (\\r), and only a line feed ends a line", place + 1),
         [b'\t', ..] => format!("byte {} is a tab (\\t), and one space separates two words", place + 1),
         [byte, ..] if byte.is_ascii() => format!("byte {} is `{}`, a control character, and a line has none", place + 1, visible(*byte)),
@@ -146,7 +143,7 @@ impl Line {
         let (a, b) = (self.base(1), self.base(2));
         match number {
             1 => format!("n is `{}`", self.word(1)),
-            2 => format!("t is `{b}`, and {} is the limit of {a} bases", most_faulty(a)),
+            2 => format!("t is `{b}`, and {} is the limit of so many bases", most_faulty(a)),
             3 => "an identifier is above zero".to_string(),
             14 => {
                 let has_it = |line: &String| line.starts_with("id ") && line.split(' ').nth(2) == Some(self.word(2));
@@ -157,7 +154,7 @@ impl Line {
                 "1" => "t is 1, and 1 is named already".to_string(),
                 t => format!("t is {t}, and {t} are named already"),
             },
-            16 => format!("up to here base {a} has broadcast {}", counted(self.broadcasts(schedule, a), "message")),
+            16 => format!("a is `{a}`, and up to here that base has broadcast {}", counted(self.broadcasts(schedule, a), "message")),
             17 => format!("line {} is that carry", self.first(|line| *line == self.words.join(" "))),
             _ => format!("the header has no line `faulty {} {}`", a.min(b), a.max(b)),
         }
@@ -196,7 +193,7 @@ impl Line {
         }
         let has = counted(fields, "field");
         let mut causes = vec![format!("the form is `{word} {}`, and the line has {has} behind its word", names.join(" "))];
-        if (word, fields) == ("forge", 2) && [1, 2].iter().all(|&i| self.is_base(i)) {
+        if (word, fields) == ("forge", 2) && self.is_base(2) {
             causes.push("the space before hex stands even where there are no bytes".to_string());
         }
         if word == "forge" && fields > 3 {
@@ -218,14 +215,15 @@ impl Line {
 
     fn spaces(&self) -> Option<String> {
         let text = self.words.join(" ");
+        let too_many = |number: usize| format!("byte {number} is a space too many");
         if text.starts_with(' ') {
-            return Some("a space stands at the beginning".to_string());
+            return Some(too_many(1));
         }
         if let Some(place) = text.find("  ") {
-            return Some(format!("byte {} is a second space, and one separates two words", place + 2));
+            return Some(too_many(place + 2));
         }
         let no_bytes = text.starts_with("forge ") && self.words.len() == 4;
-        (text.ends_with(' ') && !no_bytes).then(|| "a space stands at the end".to_string())
+        (text.ends_with(' ') && !no_bytes).then(|| too_many(text.len()))
     }
 
     fn misplaced(&self, word: &str) -> Option<String> {
@@ -275,8 +273,9 @@ impl Line {
         }
         if let Some(place) = digits.bytes().position(|byte| !matches!(byte, b'0'..=b'9' | b'a'..=b'f')) {
             let sign = digits.as_bytes()[place];
-            let fault = if sign.is_ascii_uppercase() { ", and hex is in small letters" } else { ", not 0 to 9 or a to f" };
-            return Some(format!("digit {} of hex is `{}`{fault}", place + 1, visible(sign)));
+            let fault = if sign.is_ascii_uppercase() { "hex is in small letters" } else { "hex has 0 to 9 and a to f" };
+            let number = self.words.join(" ").len() - digits.len() + place + 1;
+            return Some(format!("byte {number} is `{}`, and {fault}", visible(sign)));
         }
         if digits.len() > 2 * LONGEST_FORGERY {
             return Some(format!("hex has more than {LONGEST_FORGERY} bytes"));
@@ -290,7 +289,7 @@ impl Line {
             return format!("{}, and this is the line of base {}", self.is(names, 1), self.number - 1);
         }
         if word == "id" && self.is_base(1) {
-            return format!("base {} has its line already, line {}", self.base(1), self.base(1) + 1);
+            return format!("{}, and that base has its line already, line {}", self.is(names, 1), self.base(1) + 1);
         }
         for i in (1..=names.len()).filter(|&i| ["a", "b"].contains(&names[i - 1])) {
             if !self.is_base(i) {

@@ -6,10 +6,10 @@ use Rattle.causes.proofs.alike.first_alike.Statement.{statement}
 use Rattle.causes.proofs.alike.first_alike.Tie as tie
 
 abbrev Inv-loop : tie.InvT-loop
-Inv-loop s at from next₀ k₀ next k = k ≤ length s
+Inv-loop s line from next₀ k₀ next k = k ≤ length s
 
 abbrev μ-loop : tie.MeasureT-loop
-μ-loop s at from next₀ k₀ next k = length s - k
+μ-loop s line from next₀ k₀ next k = length s - k
 
 loop-holds : tie.Need-loop-holds Inv-loop μ-loop
 loop-holds c = search needs
@@ -17,14 +17,14 @@ loop-holds c = search needs
 add-k : tie.Need-add-k Inv-loop μ-loop
 add-k c = search needs
 
+line-at-requires : tie.Need-line-at-requires Inv-loop μ-loop
+line-at-requires c κs = search needs
+
 alike-requires : tie.Need-alike-requires Inv-loop μ-loop
 alike-requires c κs = search needs
 
 returns : tie.Need-returns Inv-loop μ-loop
 returns c = search needs
-
-line-at-requires : tie.Need-line-at-requires Inv-loop μ-loop
-line-at-requires c κs = search needs
 
 plus-requires : tie.Need-plus-requires Inv-loop μ-loop
 plus-requires c κs = search needs
@@ -49,9 +49,9 @@ first-alike-spec =
     μ-loop
     loop-holds
     add-k
+    line-at-requires
     alike-requires
     returns
-    line-at-requires
     plus-requires
     plus-requires-2
     loop-less

@@ -19,9 +19,6 @@ add-kind c = search needs
 slice-aggregate-row : tie.Need-slice-aggregate-row Inv-loop μ-loop
 slice-aggregate-row c = search needs
 
-cast-row : tie.Need-cast-row Inv-loop μ-loop
-cast-row c = search needs
-
 row-requires : tie.Need-row-requires Inv-loop μ-loop
 row-requires c κs = search needs
 
@@ -55,7 +52,6 @@ kind-of-spec =
     loop-holds
     add-kind
     slice-aggregate-row
-    cast-row
     row-requires
     field-requires
     field-requires-2

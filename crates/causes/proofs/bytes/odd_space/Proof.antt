@@ -2,8 +2,8 @@
 use Prim.Native.Nat.{_≤_, _-_}
 use lib.ListN.{length}
 use borrow.Author.Needs.{needs}
-use Rattle.causes.proofs.bytes.two_spaces.Statement.{statement}
-use Rattle.causes.proofs.bytes.two_spaces.Tie as tie
+use Rattle.causes.proofs.bytes.odd_space.Statement.{statement}
+use Rattle.causes.proofs.bytes.odd_space.Tie as tie
 
 abbrev Inv-loop : tie.InvT-loop
 Inv-loop line before₀ i₀ before i = i ≤ length line
@@ -32,8 +32,8 @@ loop-again c = search needs
 returns-2 : tie.Need-returns-2 Inv-loop μ-loop
 returns-2 c = search needs
 
-pub two-spaces-spec : {M : Type 1} → statement M
-two-spaces-spec =
+pub odd-space-spec : {M : Type 1} → statement M
+odd-space-spec =
     tie.close
     (tie.spec
     Inv-loop
