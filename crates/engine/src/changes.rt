@@ -12,7 +12,6 @@ use protocol::Outcome;
 use protocol::RUNNING;
 use reader::Reading;
 use reader::read;
-use settling::accepted_at;
 use soundness::refusals::place_refusal;
 use soundness::refusals::record_refusal;
 use soundness::refusals::start_refusal;
@@ -62,8 +61,7 @@ pub fn hear(base: Base, link: usize, kind: u8, ids: [u32; MOST_BASES], out: &mut
     if number != 0 {
         return refused(base, number);
     }
-    let i = link - 1;
-    step(base, i, accepted_at(base, i, kind, ids), kind, ids, out)
+    step(base, link - 1, kind, ids, out)
 }
 
 // A burst arrives on a link, 1 to n - 1. Turned down by 1 to 12.
@@ -71,12 +69,11 @@ pub fn arrive(base: Base, link: usize, burst: &[u8], out: &mut [u8]) -> Change
     ensures { λ r. ⌜ Does base (arrival base link (now (burst .entry)) (length (now (out .entry)))) r
         (now (out .entry)) (now (out .exit)) ⌝ }
 {
-    let place = place_refusal(record_refusal(base), base.n, link, out.len());
-    if place != 0 {
-        return refused(base, place);
+    let refusal = place_refusal(record_refusal(base), base.n, link, out.len());
+    if refusal != 0 {
+        return refused(base, refusal);
     }
     let n = base.n as usize;
-    let i = link - 1;
     match read(n, burst) {
         Reading::Refused(number) => refused(base, number),
         Reading::Message {
@@ -85,7 +82,7 @@ pub fn arrive(base: Base, link: usize, burst: &[u8], out: &mut [u8]) -> Change
             start: _,
         } => {
             let ids = identifiers(body(n, burst));
-            step(base, i, accepted_at(base, i, kind, ids), kind, ids, out)
+            step(base, link - 1, kind, ids, out)
         }
     }
 }

@@ -30,20 +30,26 @@ use Rattle.settling.specs.Settling.{withinLinks, acceptedAt, decidedAt, toldFra
 use Rattle.settling.specs.Settling.Told.{told-does}
 use Rattle.starting.specs.Starting.{startFrames, startLength, firstFrames, firstChange}
 use Rattle.starting.specs.Starting.Laws.{start-long, start-fits, start-is, start-says}
-use Rattle.stepping.specs.Stepping.{goesOn, goesOnFrames, stepOutcome, stepBase, stepFrames, Steps}
+use Rattle.stepping.specs.Stepping.{goesOn, goesOnFrames, acceptedHere, decidedHere, stepOutcome, stepBase, stepFrames, Steps}
 use Rattle.stepping.specs.Stepping.First.{Ready, ready-within, message-room, arrival-running, behind-does}
 
 module _ (b : Base) (i kind : ℕ) (ids output : List ℕ) (R : Ready b i) (M : MessageIn (b .n) kind ids) (z : length ids ≡ mostBases)
-    (wide : outputRoom ≤ length output) (a : Accepted) (e : a ≡ acceptedAt b i kind ids) (r : Change) (after : List ℕ)
-    (S : Steps b i a kind ids r output after) where
+    (wide : outputRoom ≤ length output) (r : Change) (after : List ℕ) (S : Steps b i kind ids r output after) where
   m : Done
   m = onMessage (begun b) i (messageIn (b .n) kind ids)
 
+  a : Accepted
+  a = acceptedHere b i kind ids
+
   D : Decision
-  D = decidedAt b (withinLinks i) a kind ids
+  D = decidedHere b i kind ids
+
+  accepts : a ≡ acceptedAt b i kind ids
+  unfolding a acceptedHere
+  accepts = ap (λ (k : ℕ). acceptedAt b k kind ids) (ready-within b i R)
 
   decides : D ≡ decidedAt b i a kind ids
-  unfolding D
+  unfolding a D decidedHere
   decides = ap (λ (k : ℕ). decidedAt b k a kind ids) (ready-within b i R)
 
   -- ---- a stopped base
@@ -58,10 +64,10 @@ module _ (b : Base) (i kind : ℕ) (ids output : List ℕ) (R : Ready b i) (M : 
   told : (part : List ℕ) → length (encodeAll (m .says)) ≤ length part
       → Does b m (toldChange (b .n) i a D ids (length part)) part (over (toldFrames (b .n) (a .accepted) D ids (length part)) part)
   unfolding m
-  told part h = told-does b i kind ids part (record { net = record-passed b (R .refusal) .net; here = R .here }) M z a D e decides h _ _ refl refl
+  told part h = told-does b i kind ids part (record { net = record-passed b (R .refusal) .net; here = R .here }) M z a D accepts decides h _ _ refl refl
 
   runs : stopped b ≡ false → idle b ≡ false → Does b m r output after
-  unfolding m D stepOutcome stepBase stepFrames goesOn goesOnFrames withState
+  unfolding m a D stepOutcome stepBase stepFrames goesOn goesOnFrames withState
   runs t k =
       let T = told output (omega (arith, wide, message-room (begun b) i kind ids (record-passed b (R .refusal) .net))) in
       record {
@@ -94,7 +100,7 @@ module _ (b : Base) (i kind : ℕ) (ids output : List ℕ) (R : Ready b i) (M : 
       sym (over-rest start f output _ _ _ _ refl refl refl refl) ∙ over-rest start g output _ _ _ _ refl refl refl p
 
   starts : Sized b → stopped b ≡ false → idle b ≡ true → Does b (afterStart b m) r output after
-  unfolding m D start stepOutcome stepBase stepFrames goesOn goesOnFrames firstChange firstFrames toldChange changedBase outputOf
+  unfolding m a D start stepOutcome stepBase stepFrames goesOn goesOnFrames firstChange firstFrames toldChange changedBase outputOf
   starts Z t k =
       let room = length output in
       let small = idle-first b Z (R .refusal) k i (R .here) (messageIn (b .n) kind ids) .brief .small in
