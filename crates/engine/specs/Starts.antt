@@ -22,7 +22,7 @@ use Rattle.change.specs.declared.Change.{Change}
 use Rattle.change.specs.Change.{changedBase, Does}
 use Rattle.writer.specs.declared.TwoLengths.{TwoLengths}
 use Rattle.starting.specs.Starting.{startFrames, startLength}
-use Rattle.starting.specs.Starting.Laws.{start-is, start-says}
+use Rattle.starting.specs.Starting.Laws.{start-length-is, start-says}
 
 module _ (b : Base) (room r : ℕ) (e : r ≡ first (recordRefusal b) (outputRefusal room)) where
   pub start-down : r ≢ 0 → start b room ≡ refuses b r
@@ -56,7 +56,7 @@ pub begins-does : (b : Base) (c : Change) (two : TwoLengths) (output after : Lis
 unfolding outputOf
 begins-does b c two output after wide e p q r =
     let room : 2 * frameBytes 1 ≤ length output = omega (arith, wide) in
-    let one = start-is (length output) room in record {
+    let one = start-length-is (length output) room in record {
       changes = record {
         outcome = p ∙ begins-outcome b (two .front) (two .next)
             (ap (λ (t : TwoLengths). t .front) e ∙ one) (ap (λ (t : TwoLengths). t .next) e ∙ one);

@@ -20,12 +20,12 @@ pub mod First
 pub mod Arrival
 
 -- of a base that has not stopped, by what it decides: an idle one starts first
-unfoldable pub goesOn : Base → ℕ → Accepted → Decision → List ℕ → ℕ → Change
-goesOn b i a d ids room =
+unfoldable pub unstoppedChange : Base → ℕ → Accepted → Decision → List ℕ → ℕ → Change
+unstoppedChange b i a d ids room =
     choose (idle b) (firstChange (b .n) (b .own) i a d ids room) (toldChange (b .n) i a d ids room)
 
-unfoldable pub goesOnFrames : Base → Accepted → Decision → List ℕ → ℕ → List ℕ
-goesOnFrames b a d ids room =
+unfoldable pub unstoppedFrames : Base → Accepted → Decision → List ℕ → ℕ → List ℕ
+unstoppedFrames b a d ids room =
     choose (idle b) (firstFrames (b .n) (b .own) (a .accepted) d ids room) (toldFrames (b .n) (a .accepted) d ids room)
 
 -- the message at its link, and what the base decides then
@@ -38,14 +38,14 @@ decidedHere b i kind ids = decidedAt b (withinLinks i) (acceptedHere b i kind id
 -- a stopped base discards, and changes nothing
 unfoldable pub stepOutcome : Base → ℕ → ℕ → List ℕ → ℕ → Outcome
 stepOutcome b i kind ids room =
-    choose (stopped b) (Discarded 0 0 0) (goesOn b i (acceptedHere b i kind ids) (decidedHere b i kind ids) ids room .outcome)
+    choose (stopped b) (Discarded 0 0 0) (unstoppedChange b i (acceptedHere b i kind ids) (decidedHere b i kind ids) ids room .outcome)
 
 unfoldable pub stepBase : Base → ℕ → ℕ → List ℕ → ℕ → Base
 stepBase b i kind ids room =
-    choose (stopped b) b (changedBase b (goesOn b i (acceptedHere b i kind ids) (decidedHere b i kind ids) ids room))
+    choose (stopped b) b (changedBase b (unstoppedChange b i (acceptedHere b i kind ids) (decidedHere b i kind ids) ids room))
 
 unfoldable pub stepFrames : Base → ℕ → ℕ → List ℕ → ℕ → List ℕ
-stepFrames b i kind ids room = choose (stopped b) [] (goesOnFrames b (acceptedHere b i kind ids) (decidedHere b i kind ids) ids room)
+stepFrames b i kind ids room = choose (stopped b) [] (unstoppedFrames b (acceptedHere b i kind ids) (decidedHere b i kind ids) ids room)
 
 -- the answer, the record with the change made, and the output are those
 pub record Steps (b : Base) (i kind : ℕ) (ids : List ℕ) (c : Change) (output after : List ℕ) : Type 0 where

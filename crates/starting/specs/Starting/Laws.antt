@@ -97,9 +97,9 @@ unfolding startLength
 start-short room = choose-ind (λ (k : ℕ). k ≤ frameBytes 1) (leb (2 * frameBytes 1) room) (λ _. omega arith) (λ _. omega arith)
 
 -- ---- with room for both they are those of a start
-pub start-is : (room : ℕ) → 2 * frameBytes 1 ≤ room → startLength room ≡ frameBytes 1
+pub start-length-is : (room : ℕ) → 2 * frameBytes 1 ≤ room → startLength room ≡ frameBytes 1
 unfolding startLength
-start-is room h = choose-yes _ _ (le-leb (2 * frameBytes 1) room h)
+start-length-is room h = choose-yes _ _ (le-leb (2 * frameBytes 1) room h)
 
 pub start-says : (b : Base) (room : ℕ) → 2 * frameBytes 1 ≤ room → startFrames (b .own) room ≡ encodeAll (begins b .says)
 unfolding startFrames begins accepts encodeAll encode kindOf idsOf

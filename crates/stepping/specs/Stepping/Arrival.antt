@@ -26,11 +26,12 @@ use Rattle.accepting.specs.declared.Accepted.{Accepted}
 use Rattle.deciding.specs.declared.Decision.{Decision}
 use Rattle.broadcasting.specs.Broadcasting.{behindStart}
 use Rattle.broadcasting.specs.Broadcasting.Laws.{rest-length}
-use Rattle.settling.specs.Settling.{withinLinks, acceptedAt, decidedAt, toldFrames, toldOutcome, toldChange}
+use Rattle.settling.specs.Settling.{Place, withinLinks, acceptedAt, decidedAt, toldFrames, toldOutcome, toldChange}
 use Rattle.settling.specs.Settling.Told.{told-does}
 use Rattle.starting.specs.Starting.{startFrames, startLength, firstFrames, firstChange}
-use Rattle.starting.specs.Starting.Laws.{start-long, start-fits, start-is, start-says}
-use Rattle.stepping.specs.Stepping.{goesOn, goesOnFrames, acceptedHere, decidedHere, stepOutcome, stepBase, stepFrames, Steps}
+use Rattle.starting.specs.Starting.Laws.{start-long, start-fits, start-length-is, start-says}
+use Rattle.stepping.specs.Stepping.{unstoppedChange, unstoppedFrames, acceptedHere, decidedHere}
+use Rattle.stepping.specs.Stepping.{stepOutcome, stepBase, stepFrames, Steps}
 use Rattle.stepping.specs.Stepping.First.{Ready, ready-within, message-room, arrival-running, behind-does}
 
 module _ (b : Base) (i kind : ℕ) (ids output : List ℕ) (R : Ready b i) (M : MessageIn (b .n) kind ids) (z : length ids ≡ mostBases)
@@ -60,23 +61,38 @@ module _ (b : Base) (i kind : ℕ) (ids output : List ℕ) (R : Ready b i) (M : 
     written = S .written ∙ ap (λ (s : List ℕ). over s output) (choose-yes _ _ t);
   }
 
+  -- ---- a base that has not stopped
+  goes-on : stopped b ≡ false → (r .outcome ≡ unstoppedChange b i a D ids (length output) .outcome)
+      × ((changedBase b r ≡ changedBase b (unstoppedChange b i a D ids (length output)))
+      × (after ≡ over (unstoppedFrames b a D ids (length output)) output))
+  unfolding a D stepOutcome stepBase stepFrames
+  goes-on t = (
+    S .outcome ∙ choose-no _ _ t,
+    (S .base ∙ choose-no _ _ t, S .written ∙ ap (λ (s : List ℕ). over s output) (choose-no _ _ t)),
+  )
+
   -- ---- a running one
   told : (part : List ℕ) → length (encodeAll (m .says)) ≤ length part
       → Does b m (toldChange (b .n) i a D ids (length part)) part (over (toldFrames (b .n) (a .accepted) D ids (length part)) part)
   unfolding m
-  told part h = told-does b i kind ids part (record { net = record-passed b (R .refusal) .net; here = R .here }) M z a D accepts decides h _ _ refl refl
+  told part h =
+      let P : Place b i = record { net = record-passed b (R .refusal) .net; here = R .here } in
+      told-does b i kind ids part P M z a D accepts decides h _ _ refl refl
 
   runs : stopped b ≡ false → idle b ≡ false → Does b m r output after
-  unfolding m a D stepOutcome stepBase stepFrames goesOn goesOnFrames withState
+  unfolding unstoppedChange unstoppedFrames withState
   runs t k =
-      let T = told output (omega (arith, wide, message-room (begun b) i kind ids (record-passed b (R .refusal) .net))) in
-      record {
+      let T = told output (omega (arith, wide, room)) in
+      let G = goes-on t in record {
         changes = record {
-          outcome = S .outcome ∙ choose-no _ _ t ∙ ap (λ (c : Change). c .outcome) (choose-no _ _ k) ∙ T .changes .outcome;
-          base = S .base ∙ choose-no _ _ t ∙ ap (changedBase b) (choose-no _ _ k) ∙ T .changes .base;
+          outcome = G .0 ∙ ap (λ (c : Change). c .outcome) (choose-no _ _ k) ∙ T .changes .outcome;
+          base = G .1 .0 ∙ ap (changedBase b) (choose-no _ _ k) ∙ T .changes .base;
         };
-        written = S .written ∙ ap (λ (s : List ℕ). over s output) (choose-no _ _ t ∙ choose-no _ _ k) ∙ T .written;
+        written = G .1 .1 ∙ ap (λ (s : List ℕ). over s output) (choose-no _ _ k) ∙ T .written;
       }
+    where
+      room : length (encodeAll (m .says)) ≤ outputRoom
+      room = unfold m withState in message-room (begun b) i kind ids (record-passed b (R .refusal) .net)
 
   -- ---- an idle one: the frames of the start, and those of the message in the rest of the output
   start : List ℕ
@@ -100,18 +116,18 @@ module _ (b : Base) (i kind : ℕ) (ids output : List ℕ) (R : Ready b i) (M : 
       sym (over-rest start f output _ _ _ _ refl refl refl refl) ∙ over-rest start g output _ _ _ _ refl refl refl p
 
   starts : Sized b → stopped b ≡ false → idle b ≡ true → Does b (afterStart b m) r output after
-  unfolding m a D start stepOutcome stepBase stepFrames goesOn goesOnFrames firstChange firstFrames toldChange changedBase outputOf
+  unfolding m start unstoppedChange unstoppedFrames firstChange firstFrames toldChange changedBase outputOf
   starts Z t k =
       let room = length output in
       let small = idle-first b Z (R .refusal) k i (R .here) (messageIn (b .n) kind ids) .brief .small in
-      let one : startLength room ≡ frameBytes 1 = start-is room (omega (arith, wide)) in
+      let one : startLength room ≡ frameBytes 1 = start-length-is room (omega (arith, wide)) in
       let T = told rest (omega (arith, wide, small, rest-long, start-long (b .own) room, one)) in
       let same : room - length start ≡ length rest = sym rest-long in
+      let G = goes-on t in
       behind-does b m (toldChange (b .n) i a D ids (length rest)) r (startLength room) (startLength room) _ _ output after T one one
-      (S .outcome ∙ choose-no _ _ t ∙ ap (λ (c : Change). c .outcome) (choose-yes _ _ k)
-      ∙ ap (λ (l : ℕ). firstOutcome l) same)
-      (S .base ∙ choose-no _ _ t ∙ ap (changedBase b) (choose-yes _ _ k))
-      (S .written ∙ ap (λ (s : List ℕ). over s output) (choose-no _ _ t ∙ choose-yes _ _ k)
+      (G .0 ∙ ap (λ (c : Change). c .outcome) (choose-yes _ _ k) ∙ ap (λ (l : ℕ). firstOutcome l) same)
+      (G .1 .0 ∙ ap (changedBase b) (choose-yes _ _ k))
+      (G .1 .1 ∙ ap (λ (s : List ℕ). over s output) (choose-yes _ _ k)
       ∙ ap (λ (l : ℕ). over (start ++ toldFrames (b .n) (a .accepted) D ids l) output) same
       ∙ behind _ _ (T .written)
       ∙ ap (λ (s : List ℕ). over (s ++ encodeAll (m .says)) output) (start-says b room (omega (arith, wide))))

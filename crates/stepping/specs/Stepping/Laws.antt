@@ -16,7 +16,8 @@ use Rattle.accepting.specs.declared.Accepted.{Accepted}
 use Rattle.deciding.specs.declared.Decision.{Decision}
 use Rattle.settling.specs.Settling.{withinLinks, acceptedAt, decidedAt, toldFrames, toldChange}
 use Rattle.starting.specs.Starting.{firstFrames, firstChange}
-use Rattle.stepping.specs.Stepping.{goesOn, goesOnFrames, acceptedHere, decidedHere, stepOutcome, stepBase, stepFrames, Steps}
+use Rattle.stepping.specs.Stepping.{unstoppedChange, unstoppedFrames, acceptedHere, decidedHere}
+use Rattle.stepping.specs.Stepping.{stepOutcome, stepBase, stepFrames, Steps}
 
 module _ (b : Base) (i kind : ℕ) (ids output : List ℕ) (r : Change) where
   pub step-stopped : stopped b ≡ true → ChangeOf b (discards b) r → Steps b i kind ids r output output
@@ -29,26 +30,26 @@ module _ (b : Base) (i kind : ℕ) (ids output : List ℕ) (r : Change) where
 
   module _ (off : stopped b ≡ false) (a : Accepted) (D : Decision) (e : a ≡ acceptedAt b (withinLinks i) kind ids)
       (f : D ≡ decidedAt b (withinLinks i) a kind ids) (after : List ℕ) where
-    goes-on : r ≡ goesOn b i a D ids (length output) → after ≡ over (goesOnFrames b a D ids (length output)) output
+    unstopped : r ≡ unstoppedChange b i a D ids (length output) → after ≡ over (unstoppedFrames b a D ids (length output)) output
         → Steps b i kind ids r output after
     unfolding stepOutcome stepBase stepFrames acceptedHere decidedHere
-    goes-on p q =
+    unstopped p q =
         let g = f ∙ ap (λ (x : Accepted). decidedAt b (withinLinks i) x kind ids) e in
-        let k = p ∙ ap₂ (λ (x : Accepted) (d : Decision). goesOn b i x d ids (length output)) e g in record {
+        let k = p ∙ ap₂ (λ (x : Accepted) (d : Decision). unstoppedChange b i x d ids (length output)) e g in record {
           outcome = ap (λ (c : Change). c .outcome) k ∙ sym (choose-no _ _ off);
           base = ap (changedBase b) k ∙ sym (choose-no _ _ off);
-          written = q ∙ ap₂ (λ (x : Accepted) (d : Decision). over (goesOnFrames b x d ids (length output)) output) e g
+          written = q ∙ ap₂ (λ (x : Accepted) (d : Decision). over (unstoppedFrames b x d ids (length output)) output) e g
               ∙ ap (λ (s : List ℕ). over s output) (sym (choose-no _ _ off));
         }
 
     pub step-running : idle b ≡ false → r ≡ toldChange (b .n) i a D ids (length output)
         → after ≡ over (toldFrames (b .n) (a .accepted) D ids (length output)) output → Steps b i kind ids r output after
-    unfolding goesOn goesOnFrames
+    unfolding unstoppedChange unstoppedFrames
     step-running k p q =
-        goes-on (p ∙ sym (choose-no _ _ k)) (q ∙ ap (λ (s : List ℕ). over s output) (sym (choose-no _ _ k)))
+        unstopped (p ∙ sym (choose-no _ _ k)) (q ∙ ap (λ (s : List ℕ). over s output) (sym (choose-no _ _ k)))
 
     pub step-idle : idle b ≡ true → r ≡ firstChange (b .n) (b .own) i a D ids (length output)
         → after ≡ over (firstFrames (b .n) (b .own) (a .accepted) D ids (length output)) output → Steps b i kind ids r output after
-    unfolding goesOn goesOnFrames
+    unfolding unstoppedChange unstoppedFrames
     step-idle k p q =
-        goes-on (p ∙ sym (choose-yes _ _ k)) (q ∙ ap (λ (s : List ℕ). over s output) (sym (choose-yes _ _ k)))
+        unstopped (p ∙ sym (choose-yes _ _ k)) (q ∙ ap (λ (s : List ℕ). over s output) (sym (choose-yes _ _ k)))
