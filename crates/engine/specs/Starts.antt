@@ -1,8 +1,9 @@
 -- The start call, by its number and the base's state, and what a start answers and writes.
-use Prim.Native.Nat.{ℕ, _≤_}
+use Prim.Native.Nat.{ℕ, _*_, _≤_}
 use mathlib.Core.Path.{_≡_, refl, sym, ap, _∙_}
 use mathlib.Core.Logic.{_≢_}
-use mathlib.Core.List.{List, [], _∷_, _++_, append-nil}
+use mathlib.Core.List.{List, [], _∷_}
+use native.Mathlib.Omega.{arith}
 use borrow.Author.Tests.{eq-eqb, ne-eqb}
 use lib.ListN.{length}
 use Rattle.limits.specs.Limits.{frameBytes, outputRoom}
@@ -15,10 +16,13 @@ use Rattle.protocol.specs.declared.Base.{Base}
 use Rattle.protocol.specs.declared.Outcome.the-variants.{Accepted}
 use Rattle.protocol.specs.Sound.{idle, recordRefusal}
 use Rattle.protocol.specs.Steps.{refuses, discards, accepts, withState, begins, startStep, outputRefusal, start}
-use Rattle.protocol.specs.Steps.{encodeAll, lengths, outcomeOf, outputOf}
+use Rattle.protocol.specs.Steps.{lengths, outcomeOf, outputOf}
 use Rattle.protocol.specs.Steps.Refusals.{unless-passed, unless-refused, output-passed}
 use Rattle.change.specs.declared.Change.{Change}
 use Rattle.change.specs.Change.{changedBase, Does}
+use Rattle.writer.specs.declared.TwoLengths.{TwoLengths}
+use Rattle.starting.specs.Starting.{startFrames, startLength}
+use Rattle.starting.specs.Starting.Laws.{start-length-is, start-says}
 
 module _ (b : Base) (room r : ℕ) (e : r ≡ first (recordRefusal b) (outputRefusal room)) where
   pub start-down : r ≢ 0 → start b room ≡ refuses b r
@@ -45,17 +49,21 @@ begins-outcome b front next e f =
     let second : next ≡ length (frameOf 2 (b .own ∷ [])) = f ∙ sym (length-frame 2 (b .own ∷ [])) in
     λ j. Accepted (first j) (second j) 0
 
-pub begins-does : (b : Base) (c : Change) (front next : ℕ) (output after : List ℕ) → front ≡ frameBytes 1 → next ≡ frameBytes 1
-    → c .outcome ≡ Accepted front next 0
-    → changedBase b c ≡ withState b 1 → after ≡ outputOf (begins b) output → Does b (begins b) c output after
-begins-does b c front next output after e f p q r =
-    record { changes = record { outcome = p ∙ begins-outcome b front next e f; base = q ∙ base }; written = r }
+pub begins-does : (b : Base) (c : Change) (two : TwoLengths) (output after : List ℕ) → outputRoom ≤ length output
+    → two ≡ record { front = startLength (length output); next = startLength (length output) }
+    → c .outcome ≡ Accepted (two .front) (two .next) 0 → changedBase b c ≡ withState b 1
+    → after ≡ over (startFrames (b .own) (length output)) output → Does b (begins b) c output after
+unfolding outputOf
+begins-does b c two output after wide e p q r =
+    let room : 2 * frameBytes 1 ≤ length output = omega (arith, wide) in
+    let one = start-length-is (length output) room in record {
+      changes = record {
+        outcome = p ∙ begins-outcome b (two .front) (two .next)
+            (ap (λ (t : TwoLengths). t .front) e ∙ one) (ap (λ (t : TwoLengths). t .next) e ∙ one);
+        base = q ∙ base;
+      };
+      written = r ∙ ap (λ (s : List ℕ). over s output) (start-says b (length output) room);
+    }
   where
     base : withState b 1 ≡ begins b .base
     base = unfold begins accepts in refl
-
-pub begins-output : (b : Base) (output after : List ℕ) → after ≡ over (frameOf 1 (b .own ∷ []) ++ frameOf 2 (b .own ∷ [])) output
-    → after ≡ outputOf (begins b) output
-unfolding outputOf begins accepts encodeAll encode kindOf idsOf
-begins-output b output after p =
-    p ∙ ap (λ (f : List ℕ). over (frameOf 1 (b .own ∷ []) ++ f) output) (sym (append-nil (frameOf 2 (b .own ∷ []))))

@@ -1,14 +1,12 @@
 -- A burst that the reader took or turned down, and what the arrival is then: what was read arrives.
-use Prim.Native.Nat.{ℕ, zero, suc, _-_}
+use Prim.Native.Nat.{ℕ, _-_}
 use mathlib.Core.Path.{_≡_, refl, sym, ap, ap₂, _∙_}
 use mathlib.Core.Logic.{_≢_}
 use mathlib.Core.Bool.{true}
 use mathlib.Core.List.{List}
-use native.Mathlib.Omega.{arith}
 use borrow.Author.Tests.{eq-eqb}
 use lib.ListN.{take, drop}
 use Rattle.limits.specs.Limits.{mostBases}
-use Rattle.limits.specs.Refusals.{netRefusal}
 use Rattle.limits.specs.Refusals.Laws.{net-passes}
 use Rattle.lists.specs.Choice.{first}
 use Rattle.lists.specs.Choice.Laws.{choose-yes, first-none, first-given, first-passed, first-assoc}
@@ -20,8 +18,8 @@ use Rattle.frame.specs.Reading.Laws.{Framed, Passed, trailer-passed, read-passe
 use Rattle.reader.specs.declared.Reading.the-variants as reads
 use Rattle.decoding.specs.Decoding.{idArray}
 use Rattle.decoding.specs.Decoding.Laws.{array-of, array-front}
-use Rattle.reader.specs.Answers.{stretch, readingOf, numberIn, kindIn}
-use Rattle.reader.specs.Answers.Laws.{reading-number, reading-message}
+use Rattle.reader.specs.Answers.{stretch, readingOf}
+use Rattle.reader.specs.Answers.Laws.{reading-message, reading-refused}
 use Rattle.protocol.specs.declared.Base.{Base}
 use Rattle.protocol.specs.Sound.{recordRefusal}
 use Rattle.protocol.specs.Sound.Laws.{record-passed}
@@ -29,7 +27,8 @@ use Rattle.protocol.specs.Steps.{refuses, unless, linkRefusal, outputRefusal, a
 use Rattle.protocol.specs.Steps.Refusals.{unless-refused}
 use Rattle.soundness.specs.Place.{placeRefusal}
 use Rattle.change.specs.Heard.{messageIn}
-use Rattle.engine.specs.Hearing.{messageRefusal, messageArrival}
+use Rattle.messages.specs.Messages.{messageRefusal}
+use Rattle.engine.specs.Hearing.{messageArrival}
 use Rattle.engine.specs.Hearing.Laws.{place-passed}
 
 -- ---- numbers 1 to 6, then 7 to 12
@@ -45,31 +44,17 @@ module _ (b : Base) (link : ℕ) (s : List ℕ) (room : ℕ) where
   unfolding arrival
   turned-down r e h = unless-refused b _ (λ z. h (sym e ∙ z)) ∙ ap (refuses b) e
 
-  -- the number of the place, or else that of the reading
-  same-number : first (placeRefusal b link room) (numberIn (readingOf (b .n) s)) ≡ arrivalRefusal b link s room
-  same-number = go (placeRefusal b link room) refl ∙ sym (arrival-number b link s room)
-    where
-      go : (k : ℕ) → placeRefusal b link room ≡ k
-          → first (placeRefusal b link room) (numberIn (readingOf (b .n) s)) ≡ first (placeRefusal b link room) (burstRefusal (b .n) s)
-      go zero z =
-          let N = record-passed b (place-passed b link room z .ready .refusal) .net in
-          ap (first (placeRefusal b link room)) (reading-number (b .n) s ∙ unfold readRefusal in first-none _ (net-passes N))
-      go (suc k) z =
-          let h : placeRefusal b link room ≢ 0 = λ y. absurd (omega arith) in first-given _ h ∙ sym (first-given _ h)
+  pub burst-outside : (r : ℕ) → r ≡ placeRefusal b link room → r ≢ 0 → arrival b link s room ≡ refuses b r
+  burst-outside r e h =
+      turned-down r (arrival-number b link s room ∙ first-given (burstRefusal (b .n) s) (λ z. h (e ∙ z)) ∙ sym e) h
 
-  pub burst-down : (x : ℕ) → x ≡ first (placeRefusal b link room) (numberIn (readingOf (b .n) s)) → x ≢ 0
-      → arrival b link s room ≡ refuses b x
-  burst-down x e h = turned-down x (sym (e ∙ same-number)) h
-
-  -- no number: a message was read
-  pub burst-read : first (placeRefusal b link room) (numberIn (readingOf (b .n) s)) ≡ 0
-      → (placeRefusal b link room ≡ 0)
-      × (readingOf (b .n) s ≡ reads.Message (kindIn (readingOf (b .n) s)) (countByte s) (bodyStart s))
-  unfolding readingOf kindIn
-  burst-read e =
-      let p = first-passed _ _ e in
-      let m = choose-yes _ _ (eq-eqb _ 0 (sym (reading-number (b .n) s) ∙ p .1)) in
-      (p .0, m ∙ ap (λ (k : ℕ). reads.Message k (countByte s) (bodyStart s)) (sym (ap kindIn m)))
+  -- the number of the reading
+  pub burst-down : (r : ℕ) → placeRefusal b link room ≡ 0 → readingOf (b .n) s ≡ reads.Refused r → arrival b link s room ≡ refuses b r
+  unfolding readRefusal
+  burst-down r z p =
+      let q = reading-refused (b .n) s r p in
+      let N = record-passed b (place-passed b link room z .ready .refusal) .net in
+      turned-down r (arrival-number b link s room ∙ first-none _ z ∙ sym (first-none _ (net-passes N)) ∙ q .0) (q .1)
 
   -- ---- a message
   module _ (kind count start : ℕ) (p : readingOf (b .n) s ≡ reads.Message kind count start) where

@@ -9,21 +9,28 @@ use lib.ListN.{length, take, drop, replicate, length-drop, take-append-drop}
 use lib.Seq.{length-take-le}
 use Rattle.limits.specs.Limits.{mostBases, outputRoom}
 use Rattle.lists.specs.Choice.{choose, first}
-use Rattle.lists.specs.Choice.Laws.{choose-yes, choose-no, choose-ind, first-none, first-given, first-passed}
+use Rattle.lists.specs.Choice.Laws.{choose-ind, first-none, first-given, first-passed}
 use Rattle.lists.specs.Lists.{zeros, padTo}
 use Rattle.lists.specs.Lists.Zeros.{zeros-are}
-use Rattle.frame.specs.Message.{known, expected, holdsOne}
+use Rattle.frame.specs.Message.{expected, holdsOne}
 use Rattle.frame.specs.Message.Laws.{expected-range}
-use Rattle.frame.specs.Reading.{kindRefusal, listRefusal}
-use Rattle.frame.specs.Reading.Laws.{kind-passed, kind-passes, kind-unknown}
+use Rattle.frame.specs.Reading.Laws.{kind-passed}
 use Rattle.protocol.specs.declared.Base.{Base}
+use Rattle.protocol.specs.Record.Memory.{Sized}
 use Rattle.protocol.specs.Sound.{recordRefusal}
+use Rattle.protocol.specs.Sound.Laws.{record-passed}
 use Rattle.protocol.specs.Steps.{refuses, linkRefusal, outputRefusal, arrivalStep}
 use Rattle.protocol.specs.Steps.Refusals.{unless-passed, unless-refused, link-passed, output-passed}
 use Rattle.soundness.specs.Place.{placeRefusal}
+use Rattle.messages.specs.Messages.{messageRefusal}
+use Rattle.change.specs.declared.Change.{Change}
+use Rattle.change.specs.Change.{Does}
+use Rattle.change.specs.Change.Laws.{does-as}
 use Rattle.change.specs.Heard.{HoldsFirst, MessageIn, messageIn}
-use Rattle.engine.specs.First.{Ready}
-use Rattle.engine.specs.Hearing.{messageRefusal, messageArrival}
+use Rattle.stepping.specs.Stepping.{Steps}
+use Rattle.stepping.specs.Stepping.First.{Ready}
+use Rattle.stepping.specs.Stepping.Arrival.{step-does}
+use Rattle.engine.specs.Hearing.{messageArrival}
 
 -- ---- what numbers 1 to 6 leave
 pub record PlacePassed (b : Base) (link room : ℕ) : Type 0 where
@@ -60,7 +67,7 @@ unfolding choose
 behind-zero true r e = refl
 behind-zero false r e = absurd (omega arith)
 
-pub message-passed : (n kind : ℕ) (ids : List ℕ) → 1 ≤ n → n ≤ mostBases → length ids ≡ mostBases → messageRefusal n kind ids ≡ 0
+message-passed : (n kind : ℕ) (ids : List ℕ) → 1 ≤ n → n ≤ mostBases → length ids ≡ mostBases → messageRefusal n kind ids ≡ 0
     → MessageIn n kind ids
 unfolding messageRefusal
 message-passed n kind ids some most l e =
@@ -84,30 +91,24 @@ module _ (b : Base) (link kind : ℕ) (ids : List ℕ) (room : ℕ) where
       let q = first-none (messageRefusal (b .n) kind ids) p in
       unless-refused b _ (λ z. h (e ∙ sym q ∙ z)) ∙ ap (refuses b) (q ∙ sym e)
 
-  pub heard-step : placeRefusal b link room ≡ 0 → messageRefusal (b .n) kind ids ≡ 0
+  heard-step : placeRefusal b link room ≡ 0 → messageRefusal (b .n) kind ids ≡ 0
       → messageArrival b link kind ids room ≡ arrivalStep b (link - 1) (messageIn (b .n) kind ids)
   unfolding messageArrival
   heard-step p e = unless-passed b _ (first-none _ p ∙ e)
 
--- ---- the numbers of a message, as the code finds them
+-- a message that no number turns down is the step of the code
+pub heard-does : (b : Base) (link kind : ℕ) (ids output : List ℕ) (r : Change) (after : List ℕ) → Sized b
+    → length ids ≡ mostBases → placeRefusal b link (length output) ≡ 0 → messageRefusal (b .n) kind ids ≡ 0
+    → Steps b (link - 1) kind ids r output after
+    → Does b (messageArrival b link kind ids (length output)) r output after
+heard-does b link kind ids output r after Z l p e S =
+    let P = place-passed b link (length output) p in
+    let N = record-passed b (P .ready .refusal) .net in
+    does-as (heard-step b link kind ids (length output) p e)
+    (step-does b (link - 1) kind ids output (P .ready)
+    (message-passed (b .n) kind ids (omega (arith, N .least)) (N .most) l e) l (P .wide) r after S Z)
+
+-- as many identifiers as an array has room for
 pub few : (kind n : ℕ) → n ≤ mostBases → expected kind n ≤ mostBases
 unfolding expected
 few kind n h = choose-ind (λ (k : ℕ). k ≤ mostBases) (holdsOne kind) (λ _. omega arith) (λ _. h)
-
-module _ (n kind : ℕ) (ids : List ℕ) where
-  pub message-unknown : known kind ≡ false → 8 ≡ messageRefusal n kind ids
-  unfolding messageRefusal
-  message-unknown e = let k = kind-unknown n kind (expected kind n) e in sym (first-given _ (λ z. absurd (omega (arith, sym k ∙ z))) ∙ k)
-
-  module _ (count : ℕ) (e : known kind ≡ true) (k : count ≡ expected kind n) where
-    pub message-behind : zeros (drop count ids) ≡ false → 9 ≡ messageRefusal n kind ids
-    unfolding messageRefusal
-    message-behind z = sym (first-none _ (kind-passes n kind (expected kind n) e refl)
-        ∙ choose-no _ _ (ap (λ (m : ℕ). zeros (drop m ids)) (sym k) ∙ z))
-
-  pub message-list : (count r : ℕ)
-      → known kind ≡ true → count ≡ expected kind n → zeros (drop count ids) ≡ true → r ≡ listRefusal (take count ids)
-      → r ≡ messageRefusal n kind ids
-  unfolding messageRefusal
-  message-list count r e k z p = p ∙ ap (λ (m : ℕ). listRefusal (take m ids)) k
-      ∙ sym (first-none _ (kind-passes n kind (expected kind n) e refl) ∙ choose-yes _ _ (ap (λ (m : ℕ). zeros (drop m ids)) (sym k) ∙ z))

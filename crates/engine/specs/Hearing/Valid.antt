@@ -24,7 +24,8 @@ use Rattle.protocol.specs.Steps.{Done, refuses, unless, arrivalStep}
 use Rattle.protocol.specs.Steps.Refusals.{Heard}
 use Rattle.soundness.specs.Place.{placeRefusal}
 use Rattle.change.specs.Heard.{messageIn}
-use Rattle.engine.specs.Hearing.{messageRefusal, messageArrival}
+use Rattle.messages.specs.Messages.{messageRefusal}
+use Rattle.engine.specs.Hearing.{messageArrival}
 use Rattle.engine.specs.Hearing.Laws.{place-passed, few}
 
 list-left : (t : Bool) (r : ℕ) → choose t r 9 ≡ 0 → r ≡ 0

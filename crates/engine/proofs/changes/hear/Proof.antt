@@ -1,15 +1,10 @@
 -- `engine::changes::hear` meets its contract: numbers 1 to 6, then those of the message, then the step.
-use Rattle.engine.specs.Hearing.Laws.{PlacePassed, place-number, place-passed, place-down, message-down, message-passed, heard-step}
-use Rattle.engine.specs.First.{ready-within}
-use Rattle.settling.specs.Settling.{acceptedAt}
+use Rattle.engine.specs.Hearing.Laws.{place-number, place-passed, place-down, message-down, heard-does}
 use Rattle.change.specs.Change.Laws.{does-as, refuses-does}
 use Rattle.soundness.specs.Place.{placeRefusal}
-use Rattle.protocol.specs.Sound.Laws.{record-passed}
-use Rattle.limits.specs.Limits.{mostBases}
+use Rattle.protocol.proofs.Sizes.{base-sized}
 use lib.ListN.{length}
-use native.Mathlib.Omega.{arith}
-use mathlib.Core.Path.{_≡_, sym, ap, _∙_}
-use Prim.Native.Nat.{ℕ}
+use mathlib.Core.Path.{_≡_, sym, _∙_}
 use borrow.Author.Needs.{needs}
 use Rattle.engine.proofs.changes.hear.Statement.{statement}
 use Rattle.engine.proofs.changes.hear.Tie as tie
@@ -21,9 +16,6 @@ number c = place-number _ _ _ _ _ (c .before .record-refusal .ensures) (c .place
 -- no number of the place
 none : (c : tie.Else1) → let a = c .before .before .before .before .args in placeRefusal (a .base) (a .link) (length (a .out .now)) ≡ 0
 none c = sym (number (c .before)) ∙ c .if1 .left
-
-passed : (c : tie.Else1) → let a = c .before .before .before .before .args in PlacePassed (a .base) (a .link) (length (a .out .now))
-passed c = place-passed _ _ _ (none c)
 
 record-refusal-requires : tie.Need-record-refusal-requires
 record-refusal-requires c κs = search needs
@@ -40,7 +32,7 @@ returns c = let p = c .before .before in let a = p .before .before .before .args
     (refuses-does _ _ _ (c .refused .ensures))
 
 message-refusal-requires : tie.Need-message-refusal-requires
-message-refusal-requires c κs = record-passed _ (passed c .ready .refusal) .net .most
+message-refusal-requires c κs = search needs
 
 refused-requires-2 : tie.Need-refused-requires-2
 refused-requires-2 c κs = search needs
@@ -51,39 +43,21 @@ returns-2 c = let one = c .before .before .before in let a = one .before .before
     (c .before .before .message-refusal .ensures) (c .before .if2 .taken))
     (refuses-does _ _ _ (c .refused2 .ensures))
 
-sub-i : tie.Need-sub-i
-sub-i c = passed (c .before .before) .some
-
-accepted-at-requires : tie.Need-accepted-at-requires
-accepted-at-requires c κs = search needs
+sub-step : tie.Need-sub-step
+sub-step c = place-passed _ _ _ (none (c .before .before)) .some
 
 step-requires : tie.Need-step-requires
-step-requires c κs =
-    let one = c .before .before .before .before in let s = one .before .before .before .before in let a = s .args in
-    let z : length (a .ids) ≡ mostBases = s .good .1 .1 .1 .0 .1 .0 .1 in
-    let P = passed one in let N = record-passed (a .base) (P .ready .refusal) .net in
-    let M = message-passed (a .base .n) (a .kind) (a .ids) (omega (arith, N .least)) (N .most) z
-    (sym (c .before .before .before .message-refusal .ensures) ∙ c .before .before .if2 .left) in (
-      P .ready,
-      (
-        M,
-        (
-          P .wide,
-          c .before .accepted-at .ensures
-              ∙ ap (λ (k : ℕ). acceptedAt (a .base) k (a .kind) (a .ids)) (ready-within _ _ (P .ready)),
-        ),
-      ),
-    )
+step-requires c κs = search needs
 
 same-length : tie.Need-same-length
 same-length c = search needs
 
 returns-3 : tie.Need-returns-3
 returns-3 c =
-    let two = c .before .before .before .before .before in let one = two .before .before in
-    let a = one .before .before .before .before .args in
-    does-as (heard-step (a .base) (a .link) (a .kind) (a .ids) _ (none one) (sym (two .before .message-refusal .ensures) ∙ two .if2 .left))
-    (c .before .before .step .ensures)
+    let two = c .before .before .before .before in let one = two .before .before in
+    let s = one .before .before .before .before in let a = s .args in
+    heard-does (a .base) (a .link) (a .kind) (a .ids) (a .out .now) _ _ (base-sized (a .base) _ (s .good .0)) (s .good .1 .1 .1 .0 .1 .0 .1)
+    (none one) (sym (two .before .message-refusal .ensures) ∙ two .if2 .left) (c .before .before .step .ensures)
 
 pub hear-spec : {M : Type 1} → statement M
 hear-spec =
@@ -96,8 +70,7 @@ hear-spec =
     message-refusal-requires
     refused-requires-2
     returns-2
-    sub-i
-    accepted-at-requires
+    sub-step
     step-requires
     same-length
     returns-3)

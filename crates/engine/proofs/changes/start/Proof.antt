@@ -2,9 +2,6 @@
 use Rattle.engine.specs.Starts.{start-down, start-wide, start-idle, start-on, begins-does}
 use Rattle.change.specs.Change.Laws.{does-as, refuses-does, discards-does}
 use Rattle.protocol.specs.Steps.{withState}
-use Rattle.writer.specs.declared.TwoLengths.{TwoLengths}
-use native.Mathlib.Omega.{arith}
-use mathlib.Core.Path.{ap}
 use borrow.Author.Needs.{needs}
 use Rattle.engine.proofs.changes.start.Statement.{statement}
 use Rattle.engine.proofs.changes.start.Tie as tie
@@ -29,11 +26,7 @@ returns-2 c = let b = c .before .before .before .before .before .before .args .b
     (c .before .before .before .if1 .left) (c .before .if2 .taken)) (discards-does b _ (c .discarded .ensures))
 
 begin-requires : tie.Need-begin-requires
-begin-requires c κs = omega (
-  arith,
-  start-wide (c .before .before .before .before .before .before .args .base)
-      _ _ (c .before .before .before .before .start-refusal .ensures) (c .before .before .before .if1 .left),
-)
+begin-requires c κs = search needs
 
 only-state-requires : tie.Need-only-state-requires
 only-state-requires c κs = search needs
@@ -45,11 +38,10 @@ returns-3 : tie.Need-returns-3
 returns-3 c =
     let b = c .before .before .before .before .before .before .before .before .before .before .args .base in
     let w = c .before .before .before .begin .ensures in
-    does-as (start-idle b _ _ (c .before .before .before .before .before .before .before .before .start-refusal .ensures)
-    (c .before .before .before .before .before .before .before .if1 .left) (c .before .before .before .before .before .if2 .left))
-    (begins-does b _ _ _ _ _ (ap (λ (t : TwoLengths). t .front) (w .0))
-    (ap (λ (t : TwoLengths). t .next) (w .0)) (c .only-state .ensures .0)
-    (c .only-state .ensures .1) (w .1))
+    let number = c .before .before .before .before .before .before .before .before .start-refusal .ensures in
+    let none = c .before .before .before .before .before .before .before .if1 .left in
+    does-as (start-idle b _ _ number none (c .before .before .before .before .before .if2 .left))
+    (begins-does b _ _ _ _ (start-wide b _ _ number none) (w .0) (c .only-state .ensures .0) (c .only-state .ensures .1) (w .1))
 
 pub start-spec : {M : Type 1} → statement M
 start-spec =

@@ -1,5 +1,6 @@
--- `engine::changes::message_refusal` meets its contract: the kind's shape, what stands behind the identifiers, and the list.
-use Rattle.engine.specs.Hearing.Laws.{message-unknown, message-behind, message-list, few}
+-- `messages::message_refusal` meets its contract: the kind's shape, what stands behind the identifiers, and the list.
+use Rattle.messages.specs.Messages.Laws.{message-unknown, message-behind, message-list, list-within}
+use Rattle.frame.specs.Message.{known, expected}
 use Rattle.frame.specs.Message.Laws.{shape-known, shape-unknown}
 use Rattle.limits.specs.Limits.{mostBases}
 use lib.Seq.{length-take-le}
@@ -7,10 +8,13 @@ use lib.ListN.{length}
 use borrow.Author.Tests.{not-true, not-false}
 use native.Mathlib.Omega.{arith}
 use mathlib.Core.Path.{_≡_, sym, _∙_}
-use Prim.Native.Nat.{ℕ, _≤_}
+use mathlib.Core.Bool.{true}
 use borrow.Author.Needs.{needs}
-use Rattle.engine.proofs.changes.message_refusal.Statement.{statement}
-use Rattle.engine.proofs.changes.message_refusal.Tie as tie
+use Rattle.messages.proofs.message_refusal.Statement.{statement}
+use Rattle.messages.proofs.message_refusal.Tie as tie
+
+ids-long : (s : tie.Start) → length (s .args .t3) ≡ mostBases
+ids-long s = s .good .1 .1 .0 .1 .0 .1
 
 shape-of-requires : tie.Need-shape-of-requires
 shape-of-requires c κs = search needs
@@ -36,26 +40,26 @@ returns-2 c = let a = c .before .before .before .before .before .before .before 
     (sym (c .before .before .before .before .before .before .shape-of .ensures) ∙ c .before .before .before .before .count .given .1) in
     message-behind (a .n) (a .kind) (a .t3) _ (k .0) (k .1 .0) (sym (c .before .zero-behind .ensures) ∙ not-true _ (c .if1 .taken))
 
+least-requires : tie.Need-least-requires
+least-requires c κs = search needs
+
 array-share-prefix-ids : tie.Need-array-share-prefix-ids
-array-share-prefix-ids c = let a = c .before .before .before .before .before .before .before .args in let k = shape-known (a .kind) (a .n)
-    (sym (c .before .before .before .before .before .before .shape-of .ensures) ∙ c .before .before .before .before .count .given .1) in
-    omega (arith, k .1 .0, few (a .kind) (a .n) (c .before .before .before .before .before .before .before .pre))
+array-share-prefix-ids c = search needs
 
 slice-aggregate-list-refusal : tie.Need-slice-aggregate-list-refusal
-slice-aggregate-list-refusal c = let s = c .before .before .before .before .before .before .before .before in let a = s .args in
-    let k = shape-known (a .kind) (a .n) (sym (c .before .before .before .before .before .before .before .shape-of .ensures)
-    ∙ c .before .before .before .before .before .count .given .1) in let z : length (a .t3) ≡ mostBases = s .good .1 .1 .0 .1 .0 .1 in
-    sym (length-take-le _ (a .t3) (omega (arith, k .1 .0, few (a .kind) (a .n) (s .pre))))
+slice-aggregate-list-refusal c = let s = c .before .before .before .before .before .before .before .before .before in
+    sym (length-take-le _ (s .args .t3) (omega (arith, ids-long s, c .before .least .ensures)))
 
 list-refusal-requires : tie.Need-list-refusal-requires
 list-refusal-requires c κs = search needs
 
 returns-3 : tie.Need-returns-3
-returns-3 c = let a = c .before .before .before .before .before .before .before .before .before .args in
-    let k = shape-known (a .kind) (a .n) (sym (c .before .before .before .before .before .before .before .before .shape-of .ensures)
-    ∙ c .before .before .before .before .before .before .count .given .1) in
+returns-3 c = let z = c .before .before .before .before in let s = z .before .before .before .before .before .before in let a = s .args in
+    let k = shape-known (a .kind) (a .n) (sym (z .before .before .before .before .before .shape-of .ensures)
+    ∙ z .before .before .before .count .given .1) in
     message-list (a .n) (a .kind) (a .t3) _ _ (k .0) (k .1 .0)
-    (sym (c .before .before .before .zero-behind .ensures) ∙ not-false _ (c .before .before .if1 .left)) (c .list-refusal .ensures)
+    (sym (z .zero-behind .ensures) ∙ not-false _ (c .before .before .before .if1 .left))
+    (c .list-refusal .ensures ∙ list-within _ _ _ (ids-long s) (c .before .before .least .ensures))
 
 pub message-refusal-spec : {M : Type 1} → statement M
 message-refusal-spec =
@@ -68,6 +72,7 @@ message-refusal-spec =
     slice-aggregate-zero-behind
     zero-behind-requires
     returns-2
+    least-requires
     array-share-prefix-ids
     slice-aggregate-list-refusal
     list-refusal-requires

@@ -1,0 +1,65 @@
+-- `stepping::step` meets its contract, state by state.
+use Rattle.stepping.specs.Stepping.Laws.{step-stopped, step-running, step-idle}
+use Rattle.protocol.specs.Steps.{withState}
+use Rattle.protocol.specs.Sound.{idle, stopped}
+use borrow.Author.Tests.{le-leb, lt-leb, eq-eqb, ne-eqb}
+use borrow.Author.Needs.{needs}
+use Rattle.stepping.proofs.step.Statement.{statement}
+use Rattle.stepping.proofs.step.Tie as tie
+
+discarded-requires : tie.Need-discarded-requires
+discarded-requires c κs = search needs
+
+returns : tie.Need-returns
+unfolding stopped withState
+returns c = let a = c .before .before .before .before .args in
+    step-stopped (a .base) (a .i) (a .kind) (a .ids) (a .out .now) _ (le-leb 2 _ (c .before .if1 .taken)) (c .discarded .ensures)
+
+accepted-at-requires : tie.Need-accepted-at-requires
+accepted-at-requires c κs = search needs
+
+decided-requires : tie.Need-decided-requires
+decided-requires c κs = search needs
+
+told-requires : tie.Need-told-requires
+told-requires c κs = search needs
+
+same-length : tie.Need-same-length
+same-length c = search needs
+
+returns-2 : tie.Need-returns-2
+unfolding idle stopped
+returns-2 c = let d = c .before .before .before .before .before .before in let w = c .before .before .told .ensures in
+    let s = d .before in let a = s .before .before .before .before .args in
+    step-running (a .base) (a .i) (a .kind) (a .ids) (a .out .now) _ (lt-leb 2 _ (s .before .if1 .left)) _ _
+    (s .accepted-at .ensures) (d .decided .ensures) _
+    (ne-eqb _ 0 (c .before .before .before .before .if2 .taken)) (w .0) (w .1)
+
+told-first-requires : tie.Need-told-first-requires
+told-first-requires c κs = search needs
+
+same-length-2 : tie.Need-same-length-2
+same-length-2 c = search needs
+
+returns-3 : tie.Need-returns-3
+unfolding idle stopped
+returns-3 c = let d = c .before .before .before .before .before .before in let w = c .before .before .told-first .ensures in
+    let s = d .before in let a = s .before .before .before .before .args in
+    step-idle (a .base) (a .i) (a .kind) (a .ids) (a .out .now) _ (lt-leb 2 _ (s .before .if1 .left)) _ _
+    (s .accepted-at .ensures) (d .decided .ensures) _
+    (eq-eqb _ 0 (c .before .before .before .before .if2 .left)) (w .0) (w .1)
+
+pub step-spec : {M : Type 1} → statement M
+step-spec =
+    tie.close
+    (tie.spec
+    discarded-requires
+    returns
+    accepted-at-requires
+    decided-requires
+    told-requires
+    same-length
+    returns-2
+    told-first-requires
+    same-length-2
+    returns-3)
