@@ -12,6 +12,7 @@ use protocol::Outcome;
 use protocol::RUNNING;
 use reader::Reading;
 use reader::read;
+use settling::accepted_at;
 use soundness::refusals::place_refusal;
 use soundness::refusals::record_refusal;
 use soundness::refusals::start_refusal;
@@ -61,7 +62,8 @@ pub fn hear(base: Base, link: usize, kind: u8, ids: [u32; MOST_BASES], out: &mut
     if number != 0 {
         return refused(base, number);
     }
-    step(base, link - 1, kind, ids, out)
+    let i = link - 1;
+    step(base, i, accepted_at(base, i, kind, ids), kind, ids, out)
 }
 
 // A burst arrives on a link, 1 to n - 1. Turned down by 1 to 12.
@@ -74,6 +76,7 @@ pub fn arrive(base: Base, link: usize, burst: &[u8], out: &mut [u8]) -> Change
         return refused(base, refusal);
     }
     let n = base.n as usize;
+    let i = link - 1;
     match read(n, burst) {
         Reading::Refused(number) => refused(base, number),
         Reading::Message {
@@ -82,7 +85,7 @@ pub fn arrive(base: Base, link: usize, burst: &[u8], out: &mut [u8]) -> Change
             start: _,
         } => {
             let ids = identifiers(body(n, burst));
-            step(base, link - 1, kind, ids, out)
+            step(base, i, accepted_at(base, i, kind, ids), kind, ids, out)
         }
     }
 }

@@ -13,7 +13,7 @@ use Rattle.change.specs.declared.Change.{Change}
 use Rattle.change.specs.Change.{changedBase}
 use Rattle.accepting.specs.declared.Accepted.{Accepted}
 use Rattle.deciding.specs.declared.Decision.{Decision}
-use Rattle.settling.specs.Settling.{withinLinks, acceptedAt, decidedAt, toldFrames, toldChange}
+use Rattle.settling.specs.Settling.{withinLinks, decidedAt, toldFrames, toldChange}
 use Rattle.starting.specs.Starting.{firstFrames, firstChange}
 pub mod Laws
 pub mod First
@@ -28,27 +28,20 @@ unfoldable pub unstoppedFrames : Base → Accepted → Decision → List ℕ →
 unstoppedFrames b a d ids room =
     choose (idle b) (firstFrames (b .n) (b .own) (a .accepted) d ids room) (toldFrames (b .n) (a .accepted) d ids room)
 
--- the message at its link, and what the base decides then
-unfoldable pub acceptedHere : Base → ℕ → ℕ → List ℕ → Accepted
-acceptedHere b i kind ids = acceptedAt b (withinLinks i) kind ids
-
-unfoldable pub decidedHere : Base → ℕ → ℕ → List ℕ → Decision
-decidedHere b i kind ids = decidedAt b (withinLinks i) (acceptedHere b i kind ids) kind ids
-
 -- a stopped base discards, and changes nothing
-unfoldable pub stepOutcome : Base → ℕ → ℕ → List ℕ → ℕ → Outcome
-stepOutcome b i kind ids room =
-    choose (stopped b) (Discarded 0 0 0) (unstoppedChange b i (acceptedHere b i kind ids) (decidedHere b i kind ids) ids room .outcome)
+unfoldable pub stepOutcome : Base → ℕ → Accepted → ℕ → List ℕ → ℕ → Outcome
+stepOutcome b i a kind ids room =
+    choose (stopped b) (Discarded 0 0 0) (unstoppedChange b i a (decidedAt b (withinLinks i) a kind ids) ids room .outcome)
 
-unfoldable pub stepBase : Base → ℕ → ℕ → List ℕ → ℕ → Base
-stepBase b i kind ids room =
-    choose (stopped b) b (changedBase b (unstoppedChange b i (acceptedHere b i kind ids) (decidedHere b i kind ids) ids room))
+unfoldable pub stepBase : Base → ℕ → Accepted → ℕ → List ℕ → ℕ → Base
+stepBase b i a kind ids room =
+    choose (stopped b) b (changedBase b (unstoppedChange b i a (decidedAt b (withinLinks i) a kind ids) ids room))
 
-unfoldable pub stepFrames : Base → ℕ → ℕ → List ℕ → ℕ → List ℕ
-stepFrames b i kind ids room = choose (stopped b) [] (unstoppedFrames b (acceptedHere b i kind ids) (decidedHere b i kind ids) ids room)
+unfoldable pub stepFrames : Base → ℕ → Accepted → ℕ → List ℕ → ℕ → List ℕ
+stepFrames b i a kind ids room = choose (stopped b) [] (unstoppedFrames b a (decidedAt b (withinLinks i) a kind ids) ids room)
 
 -- the answer, the record with the change made, and the output are those
-pub record Steps (b : Base) (i kind : ℕ) (ids : List ℕ) (c : Change) (output after : List ℕ) : Type 0 where
-  pub outcome : c .outcome ≡ stepOutcome b i kind ids (length output)
-  pub base : changedBase b c ≡ stepBase b i kind ids (length output)
-  pub written : after ≡ over (stepFrames b i kind ids (length output)) output
+pub record Steps (b : Base) (i : ℕ) (a : Accepted) (kind : ℕ) (ids : List ℕ) (c : Change) (output after : List ℕ) : Type 0 where
+  pub outcome : c .outcome ≡ stepOutcome b i a kind ids (length output)
+  pub base : changedBase b c ≡ stepBase b i a kind ids (length output)
+  pub written : after ≡ over (stepFrames b i a kind ids (length output)) output

@@ -27,8 +27,10 @@ use Rattle.change.specs.declared.Change.{Change}
 use Rattle.change.specs.Change.{Does}
 use Rattle.change.specs.Change.Laws.{does-as}
 use Rattle.change.specs.Heard.{HoldsFirst, MessageIn, messageIn}
+use Rattle.accepting.specs.declared.Accepted.{Accepted}
+use Rattle.settling.specs.Settling.{withinLinks, acceptedAt}
 use Rattle.stepping.specs.Stepping.{Steps}
-use Rattle.stepping.specs.Stepping.First.{Ready}
+use Rattle.stepping.specs.Stepping.First.{Ready, ready-within}
 use Rattle.stepping.specs.Stepping.Arrival.{step-does}
 use Rattle.engine.specs.Hearing.{messageArrival}
 
@@ -97,16 +99,17 @@ module _ (b : Base) (link kind : ℕ) (ids : List ℕ) (room : ℕ) where
   heard-step p e = unless-passed b _ (first-none _ p ∙ e)
 
 -- a message that no number turns down is the step of the code
-pub heard-does : (b : Base) (link kind : ℕ) (ids output : List ℕ) (r : Change) (after : List ℕ) → Sized b
+pub heard-does : (b : Base) (link kind : ℕ) (ids output : List ℕ) (a : Accepted) (r : Change) (after : List ℕ) → Sized b
     → length ids ≡ mostBases → placeRefusal b link (length output) ≡ 0 → messageRefusal (b .n) kind ids ≡ 0
-    → Steps b (link - 1) kind ids r output after
+    → a ≡ acceptedAt b (withinLinks (link - 1)) kind ids → Steps b (link - 1) a kind ids r output after
     → Does b (messageArrival b link kind ids (length output)) r output after
-heard-does b link kind ids output r after Z l p e S =
+heard-does b link kind ids output a r after Z l p e k S =
     let P = place-passed b link (length output) p in
     let N = record-passed b (P .ready .refusal) .net in
     does-as (heard-step b link kind ids (length output) p e)
     (step-does b (link - 1) kind ids output (P .ready)
-    (message-passed (b .n) kind ids (omega (arith, N .least)) (N .most) l e) l (P .wide) r after S Z)
+    (message-passed (b .n) kind ids (omega (arith, N .least)) (N .most) l e) l (P .wide)
+    a (k ∙ ap (λ (i : ℕ). acceptedAt b i kind ids) (ready-within b (link - 1) (P .ready))) r after S Z)
 
 -- as many identifiers as an array has room for
 pub few : (kind n : ℕ) → n ≤ mostBases → expected kind n ≤ mostBases

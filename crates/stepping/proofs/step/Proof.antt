@@ -13,10 +13,8 @@ discarded-requires c κs = search needs
 returns : tie.Need-returns
 unfolding stopped withState
 returns c = let a = c .before .before .before .before .args in
-    step-stopped (a .base) (a .i) (a .kind) (a .ids) (a .out .now) _ (le-leb 2 _ (c .before .if1 .taken)) (c .discarded .ensures)
-
-accepted-at-requires : tie.Need-accepted-at-requires
-accepted-at-requires c κs = search needs
+    step-stopped (a .base) (a .i) (a .accepted) (a .kind) (a .ids) (a .out .now) _
+    (le-leb 2 _ (c .before .if1 .taken)) (c .discarded .ensures)
 
 decided-requires : tie.Need-decided-requires
 decided-requires c κs = search needs
@@ -30,10 +28,9 @@ same-length c = search needs
 returns-2 : tie.Need-returns-2
 unfolding idle stopped
 returns-2 c = let d = c .before .before .before .before .before .before in let w = c .before .before .told .ensures in
-    let s = d .before in let a = s .before .before .before .before .args in
-    step-running (a .base) (a .i) (a .kind) (a .ids) (a .out .now) _ (lt-leb 2 _ (s .before .if1 .left)) _ _
-    (s .accepted-at .ensures) (d .decided .ensures) _
-    (ne-eqb _ 0 (c .before .before .before .before .if2 .taken)) (w .0) (w .1)
+    let a = d .before .before .before .before .args in
+    step-running (a .base) (a .i) (a .accepted) (a .kind) (a .ids) (a .out .now) _
+    (lt-leb 2 _ (d .before .if1 .left)) _ (d .decided .ensures) _ (ne-eqb _ 0 (c .before .before .before .before .if2 .taken)) (w .0) (w .1)
 
 told-first-requires : tie.Need-told-first-requires
 told-first-requires c κs = search needs
@@ -44,10 +41,9 @@ same-length-2 c = search needs
 returns-3 : tie.Need-returns-3
 unfolding idle stopped
 returns-3 c = let d = c .before .before .before .before .before .before in let w = c .before .before .told-first .ensures in
-    let s = d .before in let a = s .before .before .before .before .args in
-    step-idle (a .base) (a .i) (a .kind) (a .ids) (a .out .now) _ (lt-leb 2 _ (s .before .if1 .left)) _ _
-    (s .accepted-at .ensures) (d .decided .ensures) _
-    (eq-eqb _ 0 (c .before .before .before .before .if2 .left)) (w .0) (w .1)
+    let a = d .before .before .before .before .args in
+    step-idle (a .base) (a .i) (a .accepted) (a .kind) (a .ids) (a .out .now) _
+    (lt-leb 2 _ (d .before .if1 .left)) _ (d .decided .ensures) _ (eq-eqb _ 0 (c .before .before .before .before .if2 .left)) (w .0) (w .1)
 
 pub step-spec : {M : Type 1} → statement M
 step-spec =
@@ -55,7 +51,6 @@ step-spec =
     (tie.spec
     discarded-requires
     returns
-    accepted-at-requires
     decided-requires
     told-requires
     same-length

@@ -30,27 +30,20 @@ use Rattle.settling.specs.Settling.{Place, withinLinks, acceptedAt, decidedAt, 
 use Rattle.settling.specs.Settling.Told.{told-does}
 use Rattle.starting.specs.Starting.{startFrames, startLength, firstFrames, firstChange}
 use Rattle.starting.specs.Starting.Laws.{start-long, start-fits, start-length-is, start-says}
-use Rattle.stepping.specs.Stepping.{unstoppedChange, unstoppedFrames, acceptedHere, decidedHere}
-use Rattle.stepping.specs.Stepping.{stepOutcome, stepBase, stepFrames, Steps}
+use Rattle.stepping.specs.Stepping.{unstoppedChange, unstoppedFrames, stepOutcome, stepBase, stepFrames, Steps}
 use Rattle.stepping.specs.Stepping.First.{Ready, ready-within, message-room, arrival-running, behind-does}
 
 module _ (b : Base) (i kind : ℕ) (ids output : List ℕ) (R : Ready b i) (M : MessageIn (b .n) kind ids) (z : length ids ≡ mostBases)
-    (wide : outputRoom ≤ length output) (r : Change) (after : List ℕ) (S : Steps b i kind ids r output after) where
+    (wide : outputRoom ≤ length output) (a : Accepted) (e : a ≡ acceptedAt b i kind ids) (r : Change) (after : List ℕ)
+    (S : Steps b i a kind ids r output after) where
   m : Done
   m = onMessage (begun b) i (messageIn (b .n) kind ids)
 
-  a : Accepted
-  a = acceptedHere b i kind ids
-
   D : Decision
-  D = decidedHere b i kind ids
-
-  accepts : a ≡ acceptedAt b i kind ids
-  unfolding a acceptedHere
-  accepts = ap (λ (k : ℕ). acceptedAt b k kind ids) (ready-within b i R)
+  D = decidedAt b (withinLinks i) a kind ids
 
   decides : D ≡ decidedAt b i a kind ids
-  unfolding a D decidedHere
+  unfolding D
   decides = ap (λ (k : ℕ). decidedAt b k a kind ids) (ready-within b i R)
 
   -- ---- a stopped base
@@ -65,7 +58,7 @@ module _ (b : Base) (i kind : ℕ) (ids output : List ℕ) (R : Ready b i) (M : 
   goes-on : stopped b ≡ false → (r .outcome ≡ unstoppedChange b i a D ids (length output) .outcome)
       × ((changedBase b r ≡ changedBase b (unstoppedChange b i a D ids (length output)))
       × (after ≡ over (unstoppedFrames b a D ids (length output)) output))
-  unfolding a D stepOutcome stepBase stepFrames
+  unfolding D stepOutcome stepBase stepFrames
   goes-on t = (
     S .outcome ∙ choose-no _ _ t,
     (S .base ∙ choose-no _ _ t, S .written ∙ ap (λ (s : List ℕ). over s output) (choose-no _ _ t)),
@@ -77,7 +70,7 @@ module _ (b : Base) (i kind : ℕ) (ids output : List ℕ) (R : Ready b i) (M : 
   unfolding m
   told part h =
       let P : Place b i = record { net = record-passed b (R .refusal) .net; here = R .here } in
-      told-does b i kind ids part P M z a D accepts decides h _ _ refl refl
+      told-does b i kind ids part P M z a D e decides h _ _ refl refl
 
   runs : stopped b ≡ false → idle b ≡ false → Does b m r output after
   unfolding unstoppedChange unstoppedFrames withState

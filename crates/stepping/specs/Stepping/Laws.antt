@@ -1,6 +1,6 @@
 -- What the code does in each state is the step.
 use Prim.Native.Nat.{ℕ}
-use mathlib.Core.Path.{_≡_, sym, ap, ap₂, _∙_}
+use mathlib.Core.Path.{_≡_, sym, ap, _∙_}
 use mathlib.Core.Bool.{true, false}
 use mathlib.Core.List.{List}
 use lib.ListN.{length}
@@ -14,13 +14,12 @@ use Rattle.change.specs.declared.Change.{Change}
 use Rattle.change.specs.Change.{changedBase, ChangeOf}
 use Rattle.accepting.specs.declared.Accepted.{Accepted}
 use Rattle.deciding.specs.declared.Decision.{Decision}
-use Rattle.settling.specs.Settling.{withinLinks, acceptedAt, decidedAt, toldFrames, toldChange}
+use Rattle.settling.specs.Settling.{withinLinks, decidedAt, toldFrames, toldChange}
 use Rattle.starting.specs.Starting.{firstFrames, firstChange}
-use Rattle.stepping.specs.Stepping.{unstoppedChange, unstoppedFrames, acceptedHere, decidedHere}
-use Rattle.stepping.specs.Stepping.{stepOutcome, stepBase, stepFrames, Steps}
+use Rattle.stepping.specs.Stepping.{unstoppedChange, unstoppedFrames, stepOutcome, stepBase, stepFrames, Steps}
 
-module _ (b : Base) (i kind : ℕ) (ids output : List ℕ) (r : Change) where
-  pub step-stopped : stopped b ≡ true → ChangeOf b (discards b) r → Steps b i kind ids r output output
+module _ (b : Base) (i : ℕ) (a : Accepted) (kind : ℕ) (ids output : List ℕ) (r : Change) where
+  pub step-stopped : stopped b ≡ true → ChangeOf b (discards b) r → Steps b i a kind ids r output output
   unfolding stepOutcome stepBase stepFrames discards outcomeOf lengths
   step-stopped e p = record {
     outcome = p .outcome ∙ sym (choose-yes _ _ e);
@@ -28,28 +27,26 @@ module _ (b : Base) (i kind : ℕ) (ids output : List ℕ) (r : Change) where
     written = sym (ap (λ (s : List ℕ). over s output) (choose-yes _ _ e) ∙ over-nothing output);
   }
 
-  module _ (off : stopped b ≡ false) (a : Accepted) (D : Decision) (e : a ≡ acceptedAt b (withinLinks i) kind ids)
-      (f : D ≡ decidedAt b (withinLinks i) a kind ids) (after : List ℕ) where
+  module _ (off : stopped b ≡ false) (D : Decision) (f : D ≡ decidedAt b (withinLinks i) a kind ids) (after : List ℕ) where
     unstopped : r ≡ unstoppedChange b i a D ids (length output) → after ≡ over (unstoppedFrames b a D ids (length output)) output
-        → Steps b i kind ids r output after
-    unfolding stepOutcome stepBase stepFrames acceptedHere decidedHere
+        → Steps b i a kind ids r output after
+    unfolding stepOutcome stepBase stepFrames
     unstopped p q =
-        let g = f ∙ ap (λ (x : Accepted). decidedAt b (withinLinks i) x kind ids) e in
-        let k = p ∙ ap₂ (λ (x : Accepted) (d : Decision). unstoppedChange b i x d ids (length output)) e g in record {
+        let k = p ∙ ap (λ (d : Decision). unstoppedChange b i a d ids (length output)) f in record {
           outcome = ap (λ (c : Change). c .outcome) k ∙ sym (choose-no _ _ off);
           base = ap (changedBase b) k ∙ sym (choose-no _ _ off);
-          written = q ∙ ap₂ (λ (x : Accepted) (d : Decision). over (unstoppedFrames b x d ids (length output)) output) e g
+          written = q ∙ ap (λ (d : Decision). over (unstoppedFrames b a d ids (length output)) output) f
               ∙ ap (λ (s : List ℕ). over s output) (sym (choose-no _ _ off));
         }
 
     pub step-running : idle b ≡ false → r ≡ toldChange (b .n) i a D ids (length output)
-        → after ≡ over (toldFrames (b .n) (a .accepted) D ids (length output)) output → Steps b i kind ids r output after
+        → after ≡ over (toldFrames (b .n) (a .accepted) D ids (length output)) output → Steps b i a kind ids r output after
     unfolding unstoppedChange unstoppedFrames
-    step-running k p q =
-        unstopped (p ∙ sym (choose-no _ _ k)) (q ∙ ap (λ (s : List ℕ). over s output) (sym (choose-no _ _ k)))
+    step-running e p q =
+        unstopped (p ∙ sym (choose-no _ _ e)) (q ∙ ap (λ (s : List ℕ). over s output) (sym (choose-no _ _ e)))
 
     pub step-idle : idle b ≡ true → r ≡ firstChange (b .n) (b .own) i a D ids (length output)
-        → after ≡ over (firstFrames (b .n) (b .own) (a .accepted) D ids (length output)) output → Steps b i kind ids r output after
+        → after ≡ over (firstFrames (b .n) (b .own) (a .accepted) D ids (length output)) output → Steps b i a kind ids r output after
     unfolding unstoppedChange unstoppedFrames
-    step-idle k p q =
-        unstopped (p ∙ sym (choose-yes _ _ k)) (q ∙ ap (λ (s : List ℕ). over s output) (sym (choose-yes _ _ k)))
+    step-idle e p q =
+        unstopped (p ∙ sym (choose-yes _ _ e)) (q ∙ ap (λ (s : List ℕ). over s output) (sym (choose-yes _ _ e)))

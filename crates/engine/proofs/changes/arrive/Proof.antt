@@ -40,6 +40,9 @@ returns c = let p = c .before .before in let a = p .before .before .before .befo
 cast-n : tie.Need-cast-n
 cast-n c = search needs
 
+sub-i : tie.Need-sub-i
+sub-i c = place-passed _ _ _ (none (c .before)) .some
+
 read-requires : tie.Need-read-requires
 read-requires c κs = search needs
 
@@ -58,8 +61,8 @@ body-requires c κs = search needs
 identifiers-requires : tie.Need-identifiers-requires
 identifiers-requires c κs = search needs
 
-sub-step : tie.Need-sub-step
-sub-step c = place-passed _ _ _ (none (c .before .before .before .before .before .before .before)) .some
+accepted-at-requires : tie.Need-accepted-at-requires
+accepted-at-requires c κs = search needs
 
 step-requires : tie.Need-step-requires
 step-requires c κs = search needs
@@ -75,15 +78,16 @@ same-length c = search needs
 
 returns-3 : tie.Need-returns-3
 returns-3 c =
-    let w = c .before .before .before .before in let k = w .before .before in let one = k .before .before .before .before .before in
+    let w = c .before .before .before .before .before in let k = w .before .before in let one = k .before .before .before .before .before in
     let s = one .before .before .before .before .before in let a = s .args in
     let p = sym (k .before .before .before .read .ensures) ∙ k .before .kind .given .1 in
     let ids : w .identifiers .result ≡ idArray (stretch (a .base .n) (a .burst .now)) =
     w .identifiers .ensures ∙ ap idArray (w .before .body .ensures .0) in
     does-as (read-heard (a .base) (a .link) (a .burst .now) _ _ _ _ p _ ids)
-    (heard-does (a .base) (a .link) _ _ (a .out .now) _ _ (base-sized (a .base) _ (s .good .0))
+    (heard-does (a .base) (a .link) _ _ (a .out .now) _ _ _ (base-sized (a .base) _ (s .good .0))
     (ap length ids ∙ length-array (stretch (a .base .n) (a .burst .now))) (none one)
-    (read-passes (a .base) (a .link) (a .burst .now) (length (a .out .now)) _ _ _ p _ ids) (c .before .before .step .ensures))
+    (read-passes (a .base) (a .link) (a .burst .now) (length (a .out .now)) _ _ _ p _ ids)
+    (c .before .before .before .before .accepted-at .ensures) (c .before .before .step .ensures))
 
 pub arrive-spec : {M : Type 1} → statement M
 arrive-spec =
@@ -94,13 +98,14 @@ arrive-spec =
     refused-requires
     returns
     cast-n
+    sub-i
     read-requires
     enum-known-number
     refused-requires-2
     enum-known-kind
     body-requires
     identifiers-requires
-    sub-step
+    accepted-at-requires
     step-requires
     returns-2
     same-length

@@ -43,8 +43,11 @@ returns-2 c = let one = c .before .before .before in let a = one .before .before
     (c .before .before .message-refusal .ensures) (c .before .if2 .taken))
     (refuses-does _ _ _ (c .refused2 .ensures))
 
-sub-step : tie.Need-sub-step
-sub-step c = place-passed _ _ _ (none (c .before .before)) .some
+sub-i : tie.Need-sub-i
+sub-i c = place-passed _ _ _ (none (c .before .before)) .some
+
+accepted-at-requires : tie.Need-accepted-at-requires
+accepted-at-requires c κs = search needs
 
 step-requires : tie.Need-step-requires
 step-requires c κs = search needs
@@ -54,10 +57,12 @@ same-length c = search needs
 
 returns-3 : tie.Need-returns-3
 returns-3 c =
-    let two = c .before .before .before .before in let one = two .before .before in
+    let two = c .before .before .before .before .before in let one = two .before .before in
     let s = one .before .before .before .before in let a = s .args in
-    heard-does (a .base) (a .link) (a .kind) (a .ids) (a .out .now) _ _ (base-sized (a .base) _ (s .good .0)) (s .good .1 .1 .1 .0 .1 .0 .1)
-    (none one) (sym (two .before .message-refusal .ensures) ∙ two .if2 .left) (c .before .before .step .ensures)
+    heard-does (a .base) (a .link) (a .kind) (a .ids) (a .out .now) _ _ _
+    (base-sized (a .base) _ (s .good .0)) (s .good .1 .1 .1 .0 .1 .0 .1)
+    (none one) (sym (two .before .message-refusal .ensures) ∙ two .if2 .left)
+    (c .before .before .before .before .accepted-at .ensures) (c .before .before .step .ensures)
 
 pub hear-spec : {M : Type 1} → statement M
 hear-spec =
@@ -70,7 +75,8 @@ hear-spec =
     message-refusal-requires
     refused-requires-2
     returns-2
-    sub-step
+    sub-i
+    accepted-at-requires
     step-requires
     same-length
     returns-3)
