@@ -1,4 +1,4 @@
-// The lines of events: the next line of a schedule on the net of the lines before it.
+// The lines of events: the next lines of a schedule on the net of the lines before them.
 use event_forms::event_line;
 use events::Reached;
 use faulty_links::Faulty;
@@ -15,6 +15,7 @@ ghost use Rattle.limits.specs.Limits.{mostBases, longestForgery};
 ghost use Rattle.hexadecimal.specs.Hex.{hexBytes};
 ghost use Rattle.faulty_links.specs.Faulty.{pairsOf};
 ghost use Rattle.events.specs.Events.{forgedTo};
+ghost use Rattle.schedule.specs.Walk.{repeat};
 ghost use Rattle.stored_walk.specs.State.{HasBytes, nextOf, lineAfter, goesOn};
 ghost use Rattle.stored_walk.specs.Turn.{senderOf, receiverOf, nodePlace, reachedBy};
 
@@ -146,30 +147,35 @@ fn goes_on(length: usize, n: u8, at: usize, line: usize, refusal: u8) -> bool
     line <= MOST_LINES
 }
 
-// The next line, on the net of the lines before it: the base that it reaches is stored, or the line is turned down.
-pub fn line_step(s: &[u8], net: StoredNet) -> StoredNet
-    ensures { λ r. ⌜ r ≡ lineAfter (now (s .entry)) net ⌝ }
+// The next lines, at most so many, on the net of the lines before them: the base that a line reaches is stored, or the line is turned down.
+// The net is changed in its place, so that no line copies it.
+pub fn line_steps(s: &[u8], net: StoredNet, most: usize) -> StoredNet
+    ensures { λ r. ⌜ r ≡ repeat most (lineAfter (now (s .entry))) net ⌝ }
 {
     let mut after = net;
-    if !goes_on(s.len(), after.n, after.at, after.line, after.refusal) {
-        return after;
+    let mut i: usize = 0;
+    while i < most {
+        if !goes_on(s.len(), after.n, after.at, after.line, after.refusal) {
+            return after;
+        }
+        let at = after.at;
+        let line = event_line(after.n, s, at);
+        let places = places_of(line);
+        let from = places.from;
+        let to = places.to;
+        let sender = after.nodes[from];
+        let receiver = after.nodes[to];
+        let faulty = after.faulty;
+        let reached = happen(s, sender, receiver, faulty, line);
+        if reached.refusal != 0 {
+            after.refusal = reached.refusal;
+            return after;
+        }
+        let node = reached.node;
+        after.nodes[to] = node;
+        after.at = places.next;
+        after.line = after.line + 1;
+        i += 1;
     }
-    let at = after.at;
-    let line = event_line(after.n, s, at);
-    let places = places_of(line);
-    let from = places.from;
-    let to = places.to;
-    let sender = after.nodes[from];
-    let receiver = after.nodes[to];
-    let faulty = after.faulty;
-    let reached = happen(s, sender, receiver, faulty, line);
-    if reached.refusal != 0 {
-        after.refusal = reached.refusal;
-        return after;
-    }
-    let node = reached.node;
-    after.nodes[to] = node;
-    after.at = places.next;
-    after.line = after.line + 1;
     after
 }

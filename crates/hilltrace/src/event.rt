@@ -1,7 +1,7 @@
 // The lines of events: each is taken by the replay's own step, and shown by what the net was before it.
 use crate::line::show_line;
 use event_forms::event_line;
-use event_lines::line_step;
+use event_lines::line_steps;
 use hexadecimal::hex_bytes;
 use lines::event::Line;
 use net::StoredNet;
@@ -75,7 +75,7 @@ fn show_event(s: &[u8], net: StoredNet) {
 }
 
 fn step(s: &[u8], net: StoredNet) -> StoredNet {
-    let after = line_step(s, net);
+    let after = line_steps(s, net, 1);
     if after.refusal == 0 {
         show_event(s, net);
     }

@@ -1,5 +1,5 @@
 // The report in an output.
-use event_lines::line_step;
+use event_lines::line_steps;
 use net::Header;
 use net::StoredNet;
 use net::made::begun;
@@ -48,12 +48,9 @@ pub(crate) fn put_report(s: &[u8], header: Header, out: &mut [u8]) -> usize
     if header.refusal != 0 {
         return refused_line(out, 0, header.refusal, header.line);
     }
-    let mut net = begun(header);
-    while net.at < s.len() {
-        net = line_step(s, net);
-        if net.refusal != 0 {
-            return refused_line(out, 0, net.refusal, net.line);
-        }
+    let net = line_steps(s, begun(header), s.len());
+    if net.refusal != 0 {
+        return refused_line(out, 0, net.refusal, net.line);
     }
     let end = put_bases(net, out);
     waiting_line(out, end, waiting(net))

@@ -126,17 +126,6 @@ pub line-onward : (s : List ℕ) (p : StoredNet) (x : Line) (m : Moved)
 unfolding advanced
 line-onward s p x m z h ex em e = judged-onward p refl e refl ∙ line-next s p x m z h ex em
 
--- ---- a line that is not turned down takes a byte at least
-pub line-beyond : (n : ℕ) (s : List ℕ) (w : StoredNet) (i : ℕ) → happened s w (eventLine n s i) .refusal ≡ 0 → i < nextOf (eventLine n s i)
-unfolding happened nextOf
-line-beyond n s w i = go (eventLine n s i) (event-told n s i)
-  where
-    go : (x : Line) → EventTold n s i x → happened s w x .refusal ≡ 0 → i < nextOf x
-    go (Start b next) t e = omega (arith, t .1)
-    go (Carry a b k next) t e = omega (arith, t .1 .1)
-    go (Forge a b at count next) t e = omega (arith, t .1 .1 .1)
-    go Wrong t e = absurd (omega arith)
-
 -- ---- one line by itself
 module _ (s : List ℕ) (p : StoredNet) where
   abbrev more : Bool
@@ -163,6 +152,11 @@ module _ (s : List ℕ) (p : StoredNet) where
         (leb-true (p .n) mostBases (c .0), leb-true (p .line) mostLines (c .1)),
       )
 
+  pub line-stopped : (p .refusal ≡ 0 → ⊥) → lineAfter s p ≡ p
+  unfolding lineAfter
+  line-stopped n = choose-ind (λ (q : StoredNet). q ≡ p) (and (leb (p .n) mostBases) (leb (p .line) mostLines))
+      (λ _. next-refused s p n) (λ _. refl)
+
   pub line-after : p .n ≤ mostBases → p .line ≤ mostLines → lineAfter s p ≡ nextLine replaying s p
   unfolding lineAfter
   line-after few near = choose-yes _ _ (and-both (le-leb (p .n) mostBases few) (le-leb (p .line) mostLines near))
@@ -180,51 +174,21 @@ happened-n s w (Carry a b k next) = moved-n w (carry a b k outputRoom)
 happened-n s w (Forge a b i count next) = moved-n w (forge a b (hexBytes count (drop i s)) outputRoom)
 happened-n s w Wrong = refl
 
--- where a line is not turned down, another begins behind it
-pub record WentOn (p q : StoredNet) : Type 0 where
-  pub line : q .line ≡ p .line + 1
-  pub beyond : p .at < q .at
-  pub bases : q .n ≡ p .n
+-- a line keeps the number of bases and takes one number at most
+abbrev pub OneLine : StoredNet → StoredNet → Type 0
+OneLine p q = (q .n ≡ p .n) × (q .line ≤ p .line + 1)
 
-pub went-on : (s : List ℕ) (p : StoredNet)
-    → p .refusal ≡ 0 → p .at < length s → nextLine replaying s p .refusal ≡ 0 → WentOn p (nextLine replaying s p)
-went-on s p z h e = subst (WentOn p) is (go (eqb r 0) refl)
+advanced-one-line : (p : StoredNet) (m : Moved) (next : ℕ) → m .net .n ≡ p .n → OneLine p (advanced p m next)
+unfolding advanced judged onwardNet refusedNet
+advanced-one-line p m next e = choose-ind (OneLine p) (eqb (m .refusal) 0) (λ _. (e, omega arith)) (λ _. (refl, omega arith))
+
+pub next-one-line : (s : List ℕ) (p : StoredNet) → OneLine p (nextLine replaying s p)
+unfolding nextLine unlessRefused
+next-one-line s p = choose-ind (OneLine p) (eqb (p .refusal) 0) (λ _. choose-ind (OneLine p) (leb (length s) (p .at)) (λ _. (refl, omega arith))
+    (λ _. subst (OneLine p) (sym (line-advances s x p)) (advanced-one-line p _ (nextOf x) (happened-n s p x)))) (λ _. (refl, omega arith))
   where
     x : Line
     x = eventLine (p .n) s (p .at)
-
-    m : Moved
-    m = happened s p x
-
-    r : ℕ
-    r = m .refusal
-
-    is : advanced p m (nextOf x) ≡ nextLine replaying s p
-    is = line-next s p x m z h refl refl
-
-    passed : advanced p m (nextOf x) .refusal ≡ 0
-    passed = ap (λ (q : StoredNet). q .refusal) is ∙ e
-
-    go : (t : Bool) → eqb r 0 ≡ t → WentOn p (advanced p m (nextOf x))
-    go true q = unfold advanced judged in subst (WentOn p) (sym (choose-yes (onwardNet p (m .net) (nextOf x)) (refusedNet r p) q))
-        (unfold onwardNet in record {
-          line = refl;
-          beyond = line-beyond (p .n) s p (p .at) (eqb-true r 0 q);
-          bases = happened-n s p x;
-        })
-    go false q = absurd (eqb-false r 0 q (down ∙ passed))
-      where
-        down : r ≡ advanced p m (nextOf x) .refusal
-        down = unfold advanced judged refusedNet in sym (ap (λ (y : StoredNet). y .refusal)
-            (choose-no (onwardNet p (m .net) (nextOf x)) (refusedNet r p) q))
-
--- a refused state changes no more
-pub next-again : (s : List ℕ) (k : ℕ) (first p : StoredNet) {q : StoredNet}
-    → p ≡ repeat k (nextLine replaying s) first → q ≡ nextLine replaying s p → (q .refusal ≡ 0 → ⊥) → k < length s
-    → q ≡ repeat (length s) (nextLine replaying s) first
-next-again s k first p {q} e f n h =
-    repeat-done (length s) (k + 1)
-    (nextLine replaying s) first (omega arith) (repeat-more k (nextLine replaying s) first e f) (next-refused s q n)
 
 -- ---- line numbers
 abbrev Near : ℕ → StoredNet → Type 0

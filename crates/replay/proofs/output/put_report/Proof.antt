@@ -2,57 +2,57 @@
 -- bases and `waiting`.
 use native.Mathlib.Omega.{arith}
 use borrow.Author.Needs.{needs}
-use Prim.Native.Nat.{ℕ, _-_, _≤_}
-use mathlib.Core.Path.{_≡_, refl, sym, ap, _∙_, subst}
+use Prim.Native.Nat.{ℕ, _≤_}
+use mathlib.Core.Path.{_≡_, refl, ap, _∙_}
 use mathlib.Core.List.{List, _++_}
 use borrow.Author.Tests.{eq-eqb, ne-eqb}
 use denote.Ref.{now}
 use lib.ListN.{length}
 use Rattle.lists.specs.Choice.Laws.{chosen-yes, chosen-no}
 use Rattle.limits.specs.Limits.{mostBases}
-use Rattle.print.specs.Put.{Put}
 use Rattle.print.specs.Put.Laws.{put-as, put-then, text-length, put-fits}
 use Rattle.net.specs.declared.StoredNet.{StoredNet}
 use Rattle.net.specs.Abstraction.{netOf}
 use Rattle.net.specs.Header.{begunNet}
-use Rattle.schedule.specs.Report.{lineRoom, reportRoom, baseLines, waitingLine}
+use Rattle.schedule.specs.Report.{lineRoom, baseLines, waitingLine}
 use Rattle.schedule.specs.Walk.{nextLine, repeat}
 use Rattle.schedule.specs.Walk.Laws.{repeat-none, repeat-done}
-use Rattle.stored_walk.specs.State.{reportNet, replaying}
-use Rattle.stored_walk.specs.State.Laws.{next-refused, line-after}
-use Rattle.stored_walk.specs.State.Walked.{ReadLines, walked-none, walked-more, walked-refused, walked-ended}
+use Rattle.stored_walk.specs.State.{reportNet, replaying, lineAfter}
+use Rattle.stored_walk.specs.State.Laws.{next-refused}
+use Rattle.stored_walk.specs.State.Walked.{LinesWalked, lines-walked}
 use Rattle.replay.proofs.output.put_report.Statement.{statement}
 use Rattle.replay.proofs.output.put_report.Tie as tie
 
-abbrev Inv-loop : tie.InvT-loop
-Inv-loop s out₀ net₀ out net = (out ≡ out₀) × ReadLines s net₀ net
+-- ---- the net behind the last line
+abbrev entry : (c : tie.After-line-steps) → tie.Start
+entry c = c .before .before .before .before .before .before
 
-abbrev μ-loop : tie.MeasureT-loop
-μ-loop s out₀ net₀ out net = length s - net .at
+abbrev text : (c : tie.After-line-steps) → List ℕ
+text c = now (entry c .args .s)
 
--- the loop leaves the output alone
-onto : {o out text last : List ℕ} {end : ℕ} → o ≡ out → Put o 0 text last end → Put out 0 text last end
-onto {text = text} {last = last} {end = end} e P = subst (λ (x : List ℕ). Put x 0 text last end) e P
+abbrev begin : (c : tie.After-line-steps) → StoredNet
+begin c = begunNet (entry c .args .header)
 
--- one turn of the loop reads one line
-stepped : (c : tie.After-line-step Inv-loop μ-loop)
-    → c .line-step .result ≡ nextLine replaying
-    (now (c .before .before .before .before .before .before .before .before .before .args .s)) (c .before .before .before .loop .net)
+all-lines : (c : tie.After-line-steps) → LinesWalked (text c) (begin c) (length (text c))
 unfolding begunNet
-stepped c =
-    let a = c .before .before .before .before .before .before .before .before .before in
-    let K = c .before .before .before .loop .inv .1 in
-    let first = ap (λ (w : StoredNet). w .line) (c .before .before .before .before .begun .ensures) in
-    c .line-step .ensures ∙ line-after (now (a .args .s)) (c .before .before .before .loop .net) (K .bases)
-    (omega (arith, K .least, K .short, first, a .pre .0 .0, a .pre .1 .0))
+all-lines c = let P = entry c .pre in
+    lines-walked (text c) (begin c) (length (text c)) (P .0 .1 (c .before .before .if1 .left)) (omega (arith, P .0 .0, P .1 .0))
 
-refused-line-requires : tie.Need-refused-line-requires Inv-loop μ-loop
+walks : (c : tie.After-line-steps) → c .line-steps .result ≡ repeat (length (text c)) (nextLine replaying (text c)) (begin c)
+walks c = c .line-steps .ensures ∙ ap (repeat (length (text c)) (lineAfter (text c))) (c .before .begun .ensures) ∙ all-lines c .is
+
+bases : (c : tie.After-line-steps) → c .line-steps .result .n ≤ mostBases
+unfolding begunNet
+bases c = omega (arith, entry c .pre .0 .1 (c .before .before .if1 .left), all-lines c .bases, ap (λ (w : StoredNet). w .n) (walks c))
+
+-- ---- what the function leaves to be shown
+refused-line-requires : tie.Need-refused-line-requires
 refused-line-requires c κs = search needs
 
-same-length : tie.Need-same-length Inv-loop μ-loop
+same-length : tie.Need-same-length
 same-length c = search needs
 
-returns : tie.Need-returns Inv-loop μ-loop
+returns : tie.Need-returns
 unfolding reportNet begunNet
 returns c =
     let a = c .before .before .before .before .before .before .before .before in
@@ -66,121 +66,67 @@ returns c =
       omega (arith, c .before .before .refused-line .ensures .1 .1),
     )
 
-begun-requires : tie.Need-begun-requires Inv-loop μ-loop
-begun-requires c κs = search needs
+begun-requires : tie.Need-begun-requires
+begun-requires c κs = tt
 
-loop-holds : tie.Need-loop-holds Inv-loop μ-loop
-unfolding begunNet
-loop-holds c =
-    let a = c .before .before .before .before .before in
-    let e = c .begun .ensures in
-    let none = c .before .if1 .left in (
-      refl,
-      walked-none _ _ (subst (λ (w : StoredNet). w .n ≤ mostBases) (sym e) (a .pre .0 .1 none))
-          (ap (λ (w : StoredNet). w .refusal) e ∙ none),
-    )
+line-steps-requires : tie.Need-line-steps-requires
+line-steps-requires c κs = tt
 
-line-step-requires : tie.Need-line-step-requires Inv-loop μ-loop
-line-step-requires c κs = search needs
-
-refused-line-requires-2 : tie.Need-refused-line-requires-2 Inv-loop μ-loop
+refused-line-requires-2 : tie.Need-refused-line-requires-2
 refused-line-requires-2 c κs = search needs
 
-same-length-2 : tie.Need-same-length-2 Inv-loop μ-loop
-same-length-2 c = c .before .before .refused-line2 .kept .0 ∙ ap length
-    (c .before .before .before .before .before .before .before .before .before .loop .inv .0)
+same-length-2 : tie.Need-same-length-2
+same-length-2 c = search needs
 
-returns-2 : tie.Need-returns-2 Inv-loop μ-loop
+returns-2 : tie.Need-returns-2
 unfolding reportNet
 returns-2 c =
-    let a = c .before .before .before .before .before .before .before .before .before .before .before .before .before .before .before in
-    let s = now (a .args .s) in
-    let I = c .before .before .before .before .before .before .before .before .before .loop .inv in
-    let down = c .before .before .before .before .if3 .taken in (
-      onto (I .0)
-          (put-as (chosen-no _ (ne-eqb _ 0 down) refl
-          ∙ ap reportNet (walked-refused s _ _ (I .1) (c .before .before .before .before .before .before .before .if2 .taken)
-          (stepped (c .before .before .before .before .before .before)) down)
-          ∙ ap (λ (w : StoredNet). reportNet (repeat (length s) (nextLine replaying s) w))
-          (c .before .before .before .before .before .before .before .before .before .before .begun .ensures))
-          (put-fits lineRoom (omega (arith, a .pre .1 .1, ap length (I .0)))
-          (c .before .before .refused-line2 .ensures .0, c .before .before .refused-line2 .ensures .1 .0))),
-      omega (arith, c .before .before .refused-line2 .ensures .1 .1),
+    let l = c .before .before .before .before .before .before in
+    let down = c .before .before .before .before .if2 .taken in
+    let put = c .before .before .refused-line2 .ensures in (
+      put-as (chosen-no _ (ne-eqb _ 0 down) refl ∙ ap reportNet (walks l))
+          (put-fits lineRoom (omega (arith, entry l .pre .1 .1)) (put .0, put .1 .0)),
+      omega (arith, put .1 .1),
     )
 
-loop-less : tie.Need-loop-less Inv-loop μ-loop
-loop-less c =
-    let less = c .before .before .before .if2 .taken in
-    omega (
-      arith,
-      walked-more _ _ _ (c .before .before .before .before .before .loop .inv .1) less (stepped (c .before .before))
-          (c .if3 .left) .1,
-      less,
-    )
+put-bases-requires : tie.Need-put-bases-requires
+put-bases-requires c κs = let l = c .before .before .before in (bases l, entry l .pre .1 .1)
 
-loop-again : tie.Need-loop-again Inv-loop μ-loop
-loop-again c =
-    let I = c .before .before .before .before .before .loop .inv in
-    (I .0, walked-more _ _ _ (I .1) (c .before .before .before .if2 .taken) (stepped (c .before .before)) (c .if3 .left) .0)
+waiting-requires : tie.Need-waiting-requires
+waiting-requires c κs = tt
 
-put-bases-requires : tie.Need-put-bases-requires Inv-loop μ-loop
-put-bases-requires c κs =
-    let I = c .before .before .before .loop .inv in
-    (I .1 .bases, omega (arith, c .before .before .before .before .before .before .before .before .before .pre .1 .1, ap length (I .0)))
-
-waiting-requires : tie.Need-waiting-requires Inv-loop μ-loop
-waiting-requires c κs = search needs
-
-waiting-line-requires : tie.Need-waiting-line-requires Inv-loop μ-loop
+waiting-line-requires : tie.Need-waiting-line-requires
 waiting-line-requires c κs = search needs
 
-same-length-3 : tie.Need-same-length-3 Inv-loop μ-loop
-same-length-3 c = c .before .before .waiting-line .kept .0
-    ∙ c .before .before .before .before .before .before .before .put-bases .kept .1 .0 ∙ ap length
-    (c .before .before .before .before .before .before .before .before .before .before .before .loop .inv .0)
+same-length-3 : tie.Need-same-length-3
+same-length-3 c = search needs
 
-returns-3 : tie.Need-returns-3 Inv-loop μ-loop
+returns-3 : tie.Need-returns-3
 unfolding reportNet
 returns-3 c =
     let l = c .before .before .before .before .before .before .before .before .before .before .before in
-    let a = l .before .before .before .before .before .before in
-    let s = now (a .args .s) in
-    let I = l .loop .inv in
-    let w = l .loop .net in
+    let w = l .line-steps .result in
     let put = c .before .before .before .before .before .before .before .put-bases .ensures in
-    let room : reportRoom ≤ length
-    (l .loop .out) = omega
-    (arith, a .pre .1 .1, ap length (I .0)) in
-    let P = put-fits lineRoom (omega (arith, put .1, I .1 .bases, room, text-length (put .0)))
-    (c .before .before .waiting-line .ensures .0, c .before .before .waiting-line .ensures .1 .0) in (
-      onto (I .0)
-          (put-as (ap (λ (k : ℕ). baseLines (w .n) (netOf w) ++ waitingLine k) (c .before .before .before .waiting .ensures)
-          ∙ chosen-yes _ (eq-eqb _ 0 (I .1 .none)) refl
-          ∙ ap reportNet (walked-ended s _ w (I .1)
-          (c .before .before .before .before .before .before .before .before .before .if2 .left))
-          ∙ ap (λ (x : StoredNet). reportNet (repeat (length s) (nextLine replaying s) x))
-          (c .before .before .before .before .before .before .before .before .before .before .before .before .begun .ensures))
-          (put-then (put .0) P)),
-      omega (arith, put .1, I .1 .bases, c .before .before .waiting-line .ensures .1 .1),
+    let wait = c .before .before .waiting-line .ensures in
+    let P = put-fits lineRoom (omega (arith, put .1, bases l, entry l .pre .1 .1, text-length (put .0))) (wait .0, wait .1 .0) in (
+      put-as (ap (λ (k : ℕ). baseLines (w .n) (netOf w) ++ waitingLine k) (c .before .before .before .waiting .ensures)
+          ∙ chosen-yes _ (eq-eqb _ 0 (c .before .before .before .before .before .before .before .before .before .if2 .left)) refl
+          ∙ ap reportNet (walks l)) (put-then (put .0) P),
+      omega (arith, put .1, bases l, wait .1 .1),
     )
 
 pub put-report-spec : {M : Type 1} → statement M
 put-report-spec =
     tie.close
     (tie.spec
-    Inv-loop
-    μ-loop
     refused-line-requires
     same-length
     returns
     begun-requires
-    loop-holds
-    line-step-requires
+    line-steps-requires
     refused-line-requires-2
     same-length-2
     returns-2
-    loop-less
-    loop-again
     put-bases-requires
     waiting-requires
     waiting-line-requires
