@@ -8,7 +8,7 @@ pub(crate) const LINE_FEED: u8 = 1;
 
 pub(crate) const COMMENT: u8 = 2;
 
-pub(crate) const CAPITAL: u8 = 3;
+pub(crate) const CAPITAL_DIGIT: u8 = 3;
 
 pub(crate) const NO_DIGIT: u8 = 4;
 
@@ -29,7 +29,7 @@ fn is_wanted(b: u8, wanted: u8) -> bool {
         SPACE => b == b' ',
         LINE_FEED => b == b'\n',
         COMMENT => b == b'#',
-        CAPITAL => within(b, b'A', b'Z'),
+        CAPITAL_DIGIT => within(b, b'A', b'F'),
         NO_DIGIT => !within(b, b'0', b'9'),
         NO_HEX_DIGIT => within(b, b'0', b'9') == within(b, b'a', b'f'),
         _ => !within(b, b' ', b'~'),
@@ -37,7 +37,7 @@ fn is_wanted(b: u8, wanted: u8) -> bool {
 }
 
 // The place of such a byte behind so many others of them, or the length where there is none.
-fn place_behind(bytes: &[u8], wanted: u8, count: usize) -> usize {
+pub(crate) fn place_behind(bytes: &[u8], wanted: u8, count: usize) -> usize {
     let mut left = count;
     let mut i: usize = 0;
     while i < bytes.len() {

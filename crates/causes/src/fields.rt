@@ -1,11 +1,12 @@
 // The fields of a line whose word stands in its place.
 use crate::RefusedLine;
 use crate::alike::first_alike;
-use crate::bytes::CAPITAL;
+use crate::bytes::CAPITAL_DIGIT;
 use crate::bytes::NO_DIGIT;
 use crate::bytes::NO_HEX_DIGIT;
 use crate::bytes::SPACE;
 use crate::bytes::behind;
+use crate::bytes::place_behind;
 use crate::bytes::place_of;
 use crate::bytes::spaces;
 use crate::cause::Cause;
@@ -67,7 +68,7 @@ pub(crate) fn hex_hint(kind: usize, line: &[u8], n: usize) -> Cause {
         return said(NONE);
     }
     if 3 < count {
-        return said(sentences::HEX_TOGETHER);
+        return of_byte(sentences::HEX_TOGETHER, line, place_behind(line, SPACE, 3));
     }
     if count == 2 {
         if is_base(line, 2, n) {
@@ -82,7 +83,7 @@ fn hex_digit(line: &[u8]) -> Cause {
     let digits = field(line, 3);
     let place = place_of(digits, NO_HEX_DIGIT);
     let mut sentence = sentences::NO_HEX_DIGIT;
-    if place_of(digits, CAPITAL) == place {
+    if place_of(digits, CAPITAL_DIGIT) == place {
         sentence = sentences::CAPITAL_DIGIT;
     }
     of_byte(sentence, line, plus(behind(line, SPACE, 3), place))

@@ -1,6 +1,5 @@
 // Number 13: what breaks a line's form. It is looked for in the bytes first, then in the spaces, the word and the fields.
 use crate::RefusedLine;
-use crate::bytes::CAPITAL;
 use crate::bytes::COMMENT;
 use crate::bytes::NOT_PRINTING;
 use crate::bytes::SPACE;
@@ -78,9 +77,6 @@ fn unknown(kind: usize, line: &[u8]) -> Cause {
     }
     if line.len() == 0 {
         return said(sentences::EMPTY);
-    }
-    if place_of(line, CAPITAL) < place_of(line, SPACE) {
-        return said(sentences::CAPITAL_WORD);
     }
     said(sentences::NO_WORD)
 }

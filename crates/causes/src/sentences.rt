@@ -1,7 +1,7 @@
 // What is told of a line that is refused, a row each. In a row `#` stands for a cause's number and `~` for the plural of what it counts,
 // `@` for the name of its field, `&` for the field as it stands and `^` for its value, `%` for the byte of that number, `$` for the form of
 // the line's kind, `*` for the line itself, and `+` for what a refusal of that number means.
-pub(crate) const SENTENCES: [u8; 1890] = *b"
+pub(crate) const SENTENCES: [u8; 1885] = *b"
 line #: *
   refused by #, +
   the schedule has more than 65,536 bytes
@@ -18,13 +18,12 @@ line #: *
   no line feed stands at the end
   byte # is a space too many
   the line is empty
-  the word is &, and words are in small letters
-  there is no word &, only `net`, `id`, `faulty`, `start`, `carry` and `forge`
+  there is no word &, only `net`, `id`, `faulty`, `start`, `carry` and `forge`, in small letters
   the net is named in line 1
   faulty links are named before the first event
   the form is `$`, and the line has # field~ behind its word
   the space before hex stands even where there are no bytes
-  the digits of hex stand together
+  byte # is a space, and the digits of hex stand together
   @ is &, not digits alone
   @ is &, above 4,294,967,295
   @ is &, with a leading zero
@@ -40,7 +39,7 @@ line #: *
   @ is &, and this is the line of base #
   @ is &, and that base has its line already, line #
   @ is &
-  @ is &, and # is the limit of so many bases
+  @ is &, and with so many bases t is at most #
   an identifier is above zero
   line # has it for another base
   t is 0, so no link may be named faulty
@@ -85,61 +84,59 @@ pub(crate) const SPACE_TOO_MANY: usize = 15;
 
 pub(crate) const EMPTY: usize = 16;
 
-pub(crate) const CAPITAL_WORD: usize = 17;
+pub(crate) const NO_WORD: usize = 17;
 
-pub(crate) const NO_WORD: usize = 18;
+pub(crate) const NET_AGAIN: usize = 18;
 
-pub(crate) const NET_AGAIN: usize = 19;
+pub(crate) const FAULTY_LATE: usize = 19;
 
-pub(crate) const FAULTY_LATE: usize = 20;
+pub(crate) const FIELD_COUNT: usize = 20;
 
-pub(crate) const FIELD_COUNT: usize = 21;
+pub(crate) const SPACE_BEFORE_HEX: usize = 21;
 
-pub(crate) const SPACE_BEFORE_HEX: usize = 22;
+pub(crate) const HEX_TOGETHER: usize = 22;
 
-pub(crate) const HEX_TOGETHER: usize = 23;
+pub(crate) const NOT_DIGITS: usize = 23;
 
-pub(crate) const NOT_DIGITS: usize = 24;
+pub(crate) const TOO_LARGE: usize = 24;
 
-pub(crate) const TOO_LARGE: usize = 25;
+pub(crate) const LEADING_ZERO: usize = 25;
 
-pub(crate) const LEADING_ZERO: usize = 26;
+pub(crate) const CAPITAL_DIGIT: usize = 26;
 
-pub(crate) const CAPITAL_DIGIT: usize = 27;
+pub(crate) const NO_HEX_DIGIT: usize = 27;
 
-pub(crate) const NO_HEX_DIGIT: usize = 28;
+pub(crate) const TOO_MANY_BYTES: usize = 28;
 
-pub(crate) const TOO_MANY_BYTES: usize = 29;
+pub(crate) const ODD_DIGITS: usize = 29;
 
-pub(crate) const ODD_DIGITS: usize = 30;
+pub(crate) const NO_BASE: usize = 30;
 
-pub(crate) const NO_BASE: usize = 31;
+pub(crate) const SAME_BASE: usize = 31;
 
-pub(crate) const SAME_BASE: usize = 32;
+pub(crate) const NUMBER_ZERO: usize = 32;
 
-pub(crate) const NUMBER_ZERO: usize = 33;
+pub(crate) const LARGER_FIRST: usize = 33;
 
-pub(crate) const LARGER_FIRST: usize = 34;
+pub(crate) const LINK_AGAIN: usize = 34;
 
-pub(crate) const LINK_AGAIN: usize = 35;
+pub(crate) const OTHER_BASE: usize = 35;
 
-pub(crate) const OTHER_BASE: usize = 36;
+pub(crate) const ID_AGAIN: usize = 36;
 
-pub(crate) const ID_AGAIN: usize = 37;
+pub(crate) const WRONG_NUMBER: usize = 37;
 
-pub(crate) const WRONG_NUMBER: usize = 38;
+pub(crate) const ABOVE_LIMIT: usize = 38;
 
-pub(crate) const ABOVE_LIMIT: usize = 39;
+pub(crate) const IDENTIFIER_ZERO: usize = 39;
 
-pub(crate) const IDENTIFIER_ZERO: usize = 40;
-
-pub(crate) const IDENTIFIER_AGAIN: usize = 41;
+pub(crate) const IDENTIFIER_AGAIN: usize = 40;
 
 // One link, and more of them, in the rows behind it.
-pub(crate) const NONE_FAULTY: usize = 42;
+pub(crate) const NONE_FAULTY: usize = 41;
 
-pub(crate) const TOO_FEW_BROADCASTS: usize = 45;
+pub(crate) const TOO_FEW_BROADCASTS: usize = 44;
 
-pub(crate) const CARRY_AGAIN: usize = 46;
+pub(crate) const CARRY_AGAIN: usize = 45;
 
-pub(crate) const GOOD_LINK: usize = 47;
+pub(crate) const GOOD_LINK: usize = 46;

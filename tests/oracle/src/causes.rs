@@ -143,7 +143,7 @@ impl Line {
         let (a, b) = (self.base(1), self.base(2));
         match number {
             1 => format!("n is `{}`", self.word(1)),
-            2 => format!("t is `{b}`, and {} is the limit of so many bases", most_faulty(a)),
+            2 => format!("t is `{b}`, and with so many bases t is at most {}", most_faulty(a)),
             3 => "an identifier is above zero".to_string(),
             14 => {
                 let has_it = |line: &String| line.starts_with("id ") && line.split(' ').nth(2) == Some(self.word(2));
@@ -197,7 +197,8 @@ impl Line {
             causes.push("the space before hex stands even where there are no bytes".to_string());
         }
         if word == "forge" && fields > 3 {
-            causes.push("the digits of hex stand together".to_string());
+            let place = self.words[..4].join(" ").len() + 1;
+            causes.push(format!("byte {place} is a space, and the digits of hex stand together"));
         }
         causes
     }
@@ -207,10 +208,7 @@ impl Line {
         if self.words.join(" ").is_empty() {
             return "the line is empty".to_string();
         }
-        if word.chars().any(|char| char.is_ascii_uppercase()) {
-            return format!("the word is {}, and words are in small letters", quoted(word));
-        }
-        format!("there is no word {}, only `net`, `id`, `faulty`, `start`, `carry` and `forge`", quoted(word))
+        format!("there is no word {}, only `net`, `id`, `faulty`, `start`, `carry` and `forge`, in small letters", quoted(word))
     }
 
     fn spaces(&self) -> Option<String> {
@@ -273,7 +271,7 @@ impl Line {
         }
         if let Some(place) = digits.bytes().position(|byte| !matches!(byte, b'0'..=b'9' | b'a'..=b'f')) {
             let sign = digits.as_bytes()[place];
-            let fault = if sign.is_ascii_uppercase() { "hex is in small letters" } else { "hex has 0 to 9 and a to f" };
+            let fault = if matches!(sign, b'A'..=b'F') { "hex is in small letters" } else { "hex has 0 to 9 and a to f" };
             let number = self.words.join(" ").len() - digits.len() + place + 1;
             return Some(format!("byte {number} is `{}`, and {fault}", visible(sign)));
         }
