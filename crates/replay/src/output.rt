@@ -1,40 +1,20 @@
 // The report in an output.
+use base_lines::base_lines;
 use event_lines::line_steps;
 use net::Header;
-use net::StoredNet;
 use net::made::begun;
-use report::base_line;
 use report::refused_line;
 use report::waiting_line;
 use waiting::waiting;
 ghost use mathlib.Core.Path.{_≡_};
-ghost use Prim.Native.Nat.{_+_, _*_, _≤_};
+ghost use Prim.Native.Nat.{_≤_};
 ghost use lib.ListN.{length};
 ghost use Rattle.limits.specs.Limits.{mostBases, longestSchedule};
 ghost use Rattle.print.specs.Put.{Put};
-ghost use Rattle.net.specs.Abstraction.{netOf};
 ghost use Rattle.net.specs.Header.{begunNet};
-ghost use Rattle.schedule.specs.Report.{lineRoom, reportRoom, baseLines};
+ghost use Rattle.schedule.specs.Report.{reportRoom};
 ghost use Rattle.schedule.specs.Walk.{nextLine, repeat};
 ghost use Rattle.stored_walk.specs.State.{mostHeaderLine, reportNet, replaying};
-
-// One line a base, in order of number.
-fn put_bases(net: StoredNet, out: &mut [u8]) -> usize
-    requires { ⌜ (net .n ≤ mostBases) × (reportRoom ≤ length (now out)) ⌝ }
-    ensures { λ r. ⌜ Put (now (out .entry)) 0 (baseLines (net .n) (netOf net)) (now (out .exit)) r ⌝ }
-    ensures { λ r. ⌜ r ≤ lineRoom * (net .n) ⌝ }
-{
-    let n = net.n;
-    let mut at: usize = 0;
-    let mut b: u8 = 0;
-    while b < n {
-        let node = net.nodes[b as usize];
-        let base = node.base;
-        b += 1;
-        at = base_line(out, at, b, base);
-    }
-    at
-}
 
 // Every line behind the header, up to the text's end or the first that is turned down, then the report. The net is not handed on, so
 // that no third one is held.
@@ -52,6 +32,6 @@ pub(crate) fn put_report(s: &[u8], header: Header, out: &mut [u8]) -> usize
     if net.refusal != 0 {
         return refused_line(out, 0, net.refusal, net.line);
     }
-    let end = put_bases(net, out);
+    let end = base_lines(net, out);
     waiting_line(out, end, waiting(net))
 }

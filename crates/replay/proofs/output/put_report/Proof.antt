@@ -2,7 +2,7 @@
 -- bases and `waiting`.
 use native.Mathlib.Omega.{arith}
 use borrow.Author.Needs.{needs}
-use Prim.Native.Nat.{ℕ, _≤_}
+use Prim.Native.Nat.{ℕ, _*_, _≤_}
 use mathlib.Core.Path.{_≡_, refl, ap, _∙_}
 use mathlib.Core.List.{List, _++_}
 use borrow.Author.Tests.{eq-eqb, ne-eqb}
@@ -12,7 +12,7 @@ use Rattle.lists.specs.Choice.Laws.{chosen-yes, chosen-no}
 use Rattle.limits.specs.Limits.{mostBases}
 use Rattle.print.specs.Put.Laws.{put-as, put-then, text-length, put-fits}
 use Rattle.net.specs.declared.StoredNet.{StoredNet}
-use Rattle.net.specs.Abstraction.{netOf}
+use Rattle.net.specs.Abstraction.{netOf, size}
 use Rattle.net.specs.Header.{begunNet}
 use Rattle.schedule.specs.Report.{lineRoom, baseLines, waitingLine}
 use Rattle.schedule.specs.Walk.{nextLine, repeat}
@@ -89,8 +89,8 @@ returns-2 c =
       omega (arith, put .1 .1),
     )
 
-put-bases-requires : tie.Need-put-bases-requires
-put-bases-requires c κs = let l = c .before .before .before in (bases l, entry l .pre .1 .1)
+base-lines-requires : tie.Need-base-lines-requires
+base-lines-requires c κs = tt
 
 waiting-requires : tie.Need-waiting-requires
 waiting-requires c κs = tt
@@ -102,17 +102,20 @@ same-length-3 : tie.Need-same-length-3
 same-length-3 c = search needs
 
 returns-3 : tie.Need-returns-3
-unfolding reportNet
+unfolding reportNet size
 returns-3 c =
     let l = c .before .before .before .before .before .before .before .before .before .before .before in
     let w = l .line-steps .result in
-    let put = c .before .before .before .before .before .before .before .put-bases .ensures in
+    let put = c .before .before .before .before .before .before .before .base-lines .ensures in
     let wait = c .before .before .waiting-line .ensures in
-    let P = put-fits lineRoom (omega (arith, put .1, bases l, entry l .pre .1 .1, text-length (put .0))) (wait .0, wait .1 .0) in (
+    let all : size w ≡ w .n = omega (arith, bases l) in
+    let B = put-as (ap (λ (k : ℕ). baseLines k (netOf w)) all)
+    (put-fits (lineRoom * mostBases) (omega (arith, entry l .pre .1 .1)) (put .0, put .1 .0)) in
+    let P = put-fits lineRoom (omega (arith, put .1 .1, bases l, entry l .pre .1 .1, text-length B)) (wait .0, wait .1 .0) in (
       put-as (ap (λ (k : ℕ). baseLines (w .n) (netOf w) ++ waitingLine k) (c .before .before .before .waiting .ensures)
           ∙ chosen-yes _ (eq-eqb _ 0 (c .before .before .before .before .before .before .before .before .before .if2 .left)) refl
-          ∙ ap reportNet (walks l)) (put-then (put .0) P),
-      omega (arith, put .1, bases l, wait .1 .1),
+          ∙ ap reportNet (walks l)) (put-then B P),
+      omega (arith, put .1 .1, bases l, wait .1 .1),
     )
 
 pub put-report-spec : {M : Type 1} → statement M
@@ -127,7 +130,7 @@ put-report-spec =
     refused-line-requires-2
     same-length-2
     returns-2
-    put-bases-requires
+    base-lines-requires
     waiting-requires
     waiting-line-requires
     same-length-3
