@@ -4,17 +4,18 @@
  *
  * Linking. libroster_c.a is for x86-64 with the System V calling convention: the stack is aligned to 16 bytes at a call, SSE2 is on, and
  * the 128 bytes below the stack pointer are in use (an interrupt needs a stack of its own). `rt staticlib roster_c` writes it to
- * target/staticlib/. It takes memcpy and memset from the platform and nothing else: no other library, no heap, no state of its own.
- * Different records may be used by different threads at the same time.
+ * target/staticlib/; the kit builds for no other machine. It takes memcpy and memset from the platform and nothing else: no other library,
+ * no heap, no state of its own. Different records may be used by different threads at the same time.
  *
- * What is lent. A call reads and writes what it is lent and nothing else. A pointer has to be valid for the length given with it, and
- * may be NULL where that length is 0. Records and lists of identifiers are aligned as C aligns them; bytes need no alignment. What is
- * lent to one call must not overlap. Start and arrive store the whole record, the same bytes where nothing changes: it lies in writable
- * memory, one call at a time, and nobody reads it meanwhile.
+ * What is lent. A call reads and writes what it is lent and nothing else. A record's pointer is never NULL; any other has to be valid for
+ * the length given with it, and may be NULL where that length is 0. Records and lists of identifiers are aligned as C aligns them; bytes
+ * need no alignment. What is lent to one call must not overlap. Start and arrive store the whole record, the same bytes where nothing
+ * changes: it lies in writable memory, one call at a time, and nobody reads it meanwhile.
  *
- * What is not fit. No caller has to test anything first: what is not fit is turned down by its number (enum roster_refusal), and a call
- * that is turned down changes nothing and starts nobody. 1 to 6 are mistakes around the library; 7 to 12 are damaged bursts: drop them.
- * (C cuts a number to its parameter's type before the call: a kind has 8 bits, an identifier 32.)
+ * What is not fit. No caller has to test contents or lengths first: what is not fit is turned down by its number (enum roster_refusal),
+ * and a call that is turned down changes nothing and starts nobody. 1 to 6 are mistakes around the library; 7 to 12 are bursts that are no
+ * frames: drop them. A frame has no checksum. The transport has to bring one: an altered burst that still reads as a frame makes its link
+ * one of the t for good. (C cuts a number to its parameter's type before the call: a kind has 8 bits, an identifier 32.)
  *
  * What to do with an answer. The frames of an answer stand one after another at the front of the output. Send each of them, as a burst
  * of its own, on every link of the base: after a start as after an arrival, where the answer is discarded as where it is accepted. (An
@@ -28,9 +29,11 @@
  * A base has stopped once its state is prime or secondary; only then does it have a final list and a leader. Send the frames of the
  * answer with which it stops as well: others need its Correct-Final. After that it discards every fit burst and has nothing to send.
  *
- * Keep the record, the frames that are not yet sent, and ROSTER_VERSION beside them, through a loss of power: a base that forgets its
- * record and starts again in the same net is outside everything that was proved. Store the record and the frames of a call together, in
- * one step, before the first of them is sent.
+ * Keep through a loss of power: the record, each frame until every link has acknowledged it (a base has ROSTER_MOST_BROADCASTS(n) in its
+ * life), and ROSTER_VERSION beside them; a record of another version is not to be used. A base that forgets its record and starts again in
+ * the same net is outside everything that was proved. After every call that is accepted, and after one that is discarded with frames,
+ * store the record and the frames together, in one step, before the burst is acknowledged and before the first of the frames is sent. A
+ * call that is turned down, or discarded without frames, leaves the record as it was.
  * The record may be stored as its bytes, all of which belong to fields. A record that is read back and is not sound is turned down by 4
  * (by 1 to 3 for its n, t or own identifier); roster_leader tells so without changing it. A sound one is taken for the base's own:
  * whether it is the one that the last call left is the storage's to say.
@@ -125,6 +128,7 @@ typedef struct roster_made {
     roster_base base; /* all zero where the call was turned down */
 } roster_made;
 
+/* Discarded without frames: the record is as before. Discarded with frames: an idle base has just started, and has frames to send. */
 enum roster_outcome { ROSTER_REFUSED, ROSTER_ACCEPTED, ROSTER_DISCARDED };
 
 /* The lengths of the frames broadcast, in the order written; zero for none. */
@@ -190,8 +194,8 @@ roster_named roster_leader(roster_base *base);
 ROSTER_LOOK_AT
 roster_taken roster_read(size_t n, const uint8_t *burst, size_t burst_length);
 
-/* The frame of a message in a net of n. Turned down by 1, 6 (the output is shorter than the frame), 8, 9, 11 and 12. Touches the
- * frame's bytes at the front of the output. */
+/* The frame of a message in a net of n. Turned down by 1, 6 (the output is shorter than the kind's frame; a kind that there is not has
+ * none, and is turned down by 8), 8, 9, 11 and 12. Touches the frame's bytes at the front of the output. */
 ROSTER_LOOK_AT
 roster_put roster_write(size_t n, uint8_t kind, const uint32_t *ids, size_t id_count, uint8_t *out, size_t out_length);
 

@@ -2,7 +2,8 @@
 //! (`#[path = "include/roster.rs"] mod roster;`, from where that file lies) and link the library
 //! (`rustc --edition 2021 base.rs -L target/staticlib -l static=roster_c`).
 //!
-//! What a call does, touches and is turned down by stands in roster.h. tests/layout holds the two files against each other.
+//! What a call does, touches and is turned down by stands in roster.h. tests/layout holds the two files against each other. It needs
+//! `core` alone.
 
 #![allow(dead_code)]
 
