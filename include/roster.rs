@@ -28,7 +28,7 @@ pub const STACK_ARRIVE: usize = 12000;
 pub const STACK_LEADER: usize = 8000;
 pub const STACK_READ: usize = 1000;
 pub const STACK_WRITE: usize = 1000;
-pub const STACK_REPLAY: usize = 195000;
+pub const STACK_REPLAY: usize = 190000;
 pub const STACK_VERSION: usize = 200;
 
 /// The most that t may be in a net of n, 2 or more.

@@ -184,7 +184,8 @@ advanced-one-line p m next e = choose-ind (OneLine p) (eqb (m .refusal) 0) (λ _
 
 pub next-one-line : (s : List ℕ) (p : StoredNet) → OneLine p (nextLine replaying s p)
 unfolding nextLine unlessRefused
-next-one-line s p = choose-ind (OneLine p) (eqb (p .refusal) 0) (λ _. choose-ind (OneLine p) (leb (length s) (p .at)) (λ _. (refl, omega arith))
+next-one-line s p = choose-ind (OneLine p) (eqb (p .refusal) 0)
+    (λ _. choose-ind (OneLine p) (leb (length s) (p .at)) (λ _. (refl, omega arith))
     (λ _. subst (OneLine p) (sym (line-advances s x p)) (advanced-one-line p _ (nextOf x) (happened-n s p x)))) (λ _. (refl, omega arith))
   where
     x : Line
