@@ -17,6 +17,7 @@ use output::visible;
 
 // Bytes of a line that are shown, and those of them that are its last.
 const SHOWN: usize = 80;
+
 const LAST: usize = 20;
 
 fn digit(v: usize) -> u8 {

@@ -6,6 +6,7 @@ use hexadecimal::hex_bytes;
 use lines::event::Line;
 use net::StoredNet;
 use net::nodes::node_at;
+use node::Node;
 use node::log::broadcast;
 use numbering::link_to;
 use output::parts::part;
@@ -21,23 +22,24 @@ fn arrival_from(a: u8, b: u8, forged: bool) -> Arrival {
     }
 }
 
-fn carried(net: StoredNet, a: u8, b: u8, k: usize) {
-    let frame = broadcast(node_at(net, a), k);
+// Broadcast k of base a.
+fn carried(sender: Node, receiver: Node, a: u8, b: u8, k: usize) {
+    let frame = broadcast(sender, k);
     let bytes = frame.bytes;
     call::arrival_call(
         b,
-        node_at(net, b),
+        receiver,
         arrival_from(a, b, false),
         part(&bytes, 0, frame.len),
     );
 }
 
 // A forgery whose bytes stand in the schedule.
-fn forged(s: &[u8], net: StoredNet, a: u8, b: u8, at: usize, count: usize) {
+fn forged(s: &[u8], receiver: Node, a: u8, b: u8, at: usize, count: usize) {
     let bytes = hex_bytes(s, at, count);
     call::arrival_call(
         b,
-        node_at(net, b),
+        receiver,
         arrival_from(a, b, true),
         part(&bytes, 0, count),
     );
@@ -58,7 +60,13 @@ fn show_event(s: &[u8], net: StoredNet) {
             next,
         } => {
             show_line(s, here, net.line, next);
-            carried(net, from, to, number as usize);
+            carried(
+                node_at(net, from),
+                node_at(net, to),
+                from,
+                to,
+                number as usize,
+            );
         }
         Line::Forge {
             from,
@@ -68,7 +76,7 @@ fn show_event(s: &[u8], net: StoredNet) {
             next,
         } => {
             show_line(s, here, net.line, next);
-            forged(s, net, from, to, at, count);
+            forged(s, node_at(net, to), from, to, at, count);
         }
         Line::Wrong => {}
     }
