@@ -1,13 +1,12 @@
 -- The identifiers of the bases while a schedule's header is read ("The replay program", document 01): what `id b v` does to them, and
--- its numbers.
-use Prim.Native.Nat.{ℕ, zero, suc, _-_}
-use mathlib.Core.Bool.{Bool, false}
+-- the net of which its numbers speak.
+use Prim.Native.Nat.{ℕ, _-_}
 use mathlib.Core.List.{List}
-use lib.Dec.{eqb}
 use lib.ListN.{getD, set}
 use Rattle.limits.specs.Limits.{mostBases}
-use Rattle.limits.specs.Refusals.{ownRefusal}
-use Rattle.lists.specs.Choice.{choose, or, first}
+use Rattle.lists.specs.Choice.{choose}
+use Rattle.protocol.specs.Net.{Net}
+use Rattle.protocol.specs.Agreement.Premise.{idleNet}
 use Rattle.node.specs.Node.{inRange}
 pub mod Laws
 
@@ -15,14 +14,6 @@ pub mod Laws
 unfoldable pub namedIds : List ℕ → ℕ → ℕ → List ℕ
 namedIds ids b v = choose (inRange b mostBases) (set ids (b - 1) v) ids
 
--- whether one of the bases 1 to k has the identifier v
-unfoldable pub isNamed : ℕ → List ℕ → ℕ → Bool
-isNamed zero ids v = false
-isNamed (suc k) ids v = or (eqb (getD ids k 0) v) (isNamed k ids v)
-
--- 3, then 14
-unfoldable pub idNumber : List ℕ → ℕ → ℕ
-idNumber ids v =
-    first (ownRefusal v)
-    (choose (isNamed mostBases ids v) 14
-    0)
+-- an idle net whose bases have these identifiers; its numbers are `idRefusal` of the schedule's
+unfoldable pub idsNet : List ℕ → Net
+idsNet ids = idleNet 0 0 (λ b. getD ids (b - 1) 0)

@@ -4,7 +4,8 @@ use limits::own_refusal;
 use limits::refusal::SAME_IDENTIFIER;
 ghost use mathlib.Core.Path.{_≡_};
 ghost use Rattle.limits.specs.Limits.{mostBases};
-ghost use Rattle.base_identifiers.specs.Identifiers.{namedIds, isNamed, idNumber};
+ghost use Rattle.schedule.specs.Header.{owned, idRefusal};
+ghost use Rattle.base_identifiers.specs.Identifiers.{namedIds, idsNet};
 
 // The identifiers with v as that of base b.
 pub fn with_id(ids: [u32; MOST_BASES], b: u8, v: u32) -> [u32; MOST_BASES]
@@ -24,7 +25,7 @@ pub fn with_id(ids: [u32; MOST_BASES], b: u8, v: u32) -> [u32; MOST_BASES]
 
 // Whether a base has the identifier v.
 fn is_named(ids: [u32; MOST_BASES], v: u32) -> bool
-    ensures { λ r. ⌜ r ≡ isNamed mostBases ids v ⌝ }
+    ensures { λ r. ⌜ r ≡ owned mostBases (idsNet ids) v ⌝ }
 {
     let mut b = MOST_BASES;
     while 0 < b {
@@ -38,7 +39,7 @@ fn is_named(ids: [u32; MOST_BASES], v: u32) -> bool
 
 // Numbers 3 and 14, 0 for none.
 pub fn id_refusal(ids: [u32; MOST_BASES], v: u32) -> u8
-    ensures { λ r. ⌜ r ≡ idNumber ids v ⌝ }
+    ensures { λ r. ⌜ r ≡ idRefusal (idsNet ids) v ⌝ }
 {
     let own = own_refusal(v);
     if own != 0 {

@@ -17,7 +17,7 @@ ghost use Rattle.faulty_links.specs.Faulty.{pairsOf};
 ghost use Rattle.events.specs.Events.{forgedTo};
 ghost use Rattle.schedule.specs.Walk.{repeat};
 ghost use Rattle.stored_walk.specs.State.{HasBytes, nextOf, lineAfter, goesOn};
-ghost use Rattle.stored_walk.specs.Turn.{senderOf, receiverOf, nodePlace, reachedBy};
+ghost use Rattle.stored_walk.specs.Reaching.{senderOf, receiverOf, nodePlace, reachedBy};
 
 // A line's number has a next one: 2 to the 64th less 2 (`mostLines`, `stored_walk/specs/State`).
 const MOST_LINES: usize = 2 * ((1 << 63) - 1);

@@ -2,13 +2,13 @@
 -- the net that the program's net stands for.
 use Prim.Native.Nat.{ℕ, _-_}
 use mathlib.Core.List.{List, []}
-use lib.Dec.{eqb, ltb}
-use lib.ListN.{length, getD}
-use Rattle.lists.specs.Choice.{choose, and, or, first}
+use lib.Dec.{eqb}
+use lib.ListN.{getD}
+use Rattle.lists.specs.Choice.{choose, first}
 use Rattle.limits.specs.Limits.{outputRoom}
 use Rattle.protocol.specs.Numbering.{linkTo}
 use Rattle.protocol.specs.Steps.{Done, arrival}
-use Rattle.protocol.specs.Net.{Event, starts, carry, forge, at, good, call, callRefusal, eventRefusal, refusal}
+use Rattle.protocol.specs.Net.{Event, starts, carry, forge, at, call, callRefusal, eventRefusal, refusal}
 use Rattle.protocol.specs.Net as Nets
 use Rattle.node.specs.declared.Node.{Node}
 use Rattle.node.specs.Node.{logOf, heardBy, marked}
@@ -39,12 +39,13 @@ unfoldable pub moved : StoredNet → Event → Moved
 moved w e = record { refusal = eventRefusal (faultyOf w) (netOf w) e; net = after w e }
 
 -- ---- parts
+-- what an event's numbers look at: what the sender has broadcast, and what the receiver has heard
+abbrev pub seenNet : Node → Node → Nets.Net
+seenNet v u = record { base = λ x. u .base; log = λ x. logOf v; carried = λ x y j. heardBy u x j }
+
 -- numbers 16 and 17, of the sender and the receiver
 unfoldable pub carryRefusal : Node → Node → List Nets.Pair → ℕ → ℕ → ℕ → ℕ
-carryRefusal v u faulty a b k =
-    choose (or (eqb k 0) (ltb (length (logOf v)) k)) 16
-    (choose (and (good faulty a b) (heardBy u a k)) 17
-    0)
+carryRefusal v u faulty a b k = eventRefusal faulty (seenNet v u) (carry a b k outputRoom)
 
 -- a burst arrives: the base after it, marked as a's k-th broadcast, or as it was where the call turned it down
 unfoldable pub heardBurst : Node → ℕ → List ℕ → ℕ → ℕ → Node
@@ -64,5 +65,5 @@ carriedTo v u faulty a b k =
 -- a forgery: a call that is turned down leaves the receiver as it was
 unfoldable pub forgedTo : Node → List Nets.Pair → ℕ → ℕ → List ℕ → Reached
 forgedTo u faulty a b bytes =
-    choose (good faulty a b) (record { refusal = 18; node = u })
-    (record { refusal = 0; node = Nodes.nodeAfter u (arrival (u .base) (linkTo b a) bytes outputRoom) })
+    let n = eventRefusal faulty (seenNet u u) (forge a b bytes outputRoom) in
+    record { refusal = n; node = choose (eqb n 0) (Nodes.nodeAfter u (arrival (u .base) (linkTo b a) bytes outputRoom)) u }

@@ -13,7 +13,7 @@ use Rattle.c_answers.specs.Numbers.{outcomeNumbers}
 use Rattle.node.specs.declared.Node.{Node}
 use Rattle.node.specs.Node.{joined, withBase, nodeAfter}
 use Rattle.node_calls.specs.declared.Told.{Told}
-pub mod Tidy
+pub mod Storable
 pub mod Laws
 
 -- the base after the call, beside the number by which the call was turned down

@@ -4,13 +4,14 @@ use mathlib.Core.Path.{_≡_, refl, sym, _∙_}
 use native.Mathlib.Omega.{arith}
 use borrow.Author.Needs.{needs}
 use Rattle.limits.specs.Limits.{mostBases}
-use Rattle.base_identifiers.specs.Identifiers.{isNamed}
+use Rattle.schedule.specs.Header.{owned}
+use Rattle.base_identifiers.specs.Identifiers.{idsNet}
 use Rattle.base_identifiers.specs.Identifiers.Laws.{named-here, named-below, named-none}
 use Rattle.base_identifiers.proofs.is_named.Statement.{statement}
 use Rattle.base_identifiers.proofs.is_named.Tie as tie
 
 abbrev Inv-loop : tie.InvT-loop
-Inv-loop v ids b₀ b = (b ≤ mostBases) × (isNamed mostBases ids v ≡ isNamed b ids v)
+Inv-loop v ids b₀ b = (b ≤ mostBases) × (owned mostBases (idsNet ids) v ≡ owned b (idsNet ids) v)
 
 abbrev μ-loop : tie.MeasureT-loop
 μ-loop v ids b₀ b = b

@@ -10,38 +10,45 @@ use Rattle.limits.specs.Limits.{mostBases}
 use Rattle.limits.specs.Refusals.{ownRefusal}
 use Rattle.lists.specs.Choice.{or}
 use Rattle.lists.specs.Choice.Laws.{choose-yes, choose-no, or-first, first-none, first-given}
-use Rattle.base_identifiers.specs.Identifiers.{isNamed, idNumber}
+use Rattle.protocol.specs.Sound.{idleBase}
+use Rattle.protocol.specs.Agreement.Premise.{idleNet}
+use Rattle.schedule.specs.Header.{owned, idRefusal}
+use Rattle.base_identifiers.specs.Identifiers.{idsNet}
 
 less : (b : ℕ) → b ≡ suc b - 1
 less b = omega arith
 
 module _ (ids : List ℕ) (v : ℕ) where
-  pub named-here : (b : ℕ) → 0 < b → getD ids (b - 1) 0 ≡ v → isNamed b ids v ≡ true
-  unfolding isNamed
-  named-here zero h e = absurd (omega arith)
-  named-here (suc b) h e = or-first _ (eq-eqb (getD ids b 0) v (ap (λ (i : ℕ). getD ids i 0) (less b) ∙ e))
+  own-is : (b : ℕ) → idsNet ids .base b .own ≡ getD ids (b - 1) 0
+  unfolding idsNet idleNet idleBase
+  own-is b = refl
 
-  pub named-below : (b : ℕ) → 0 < b → (getD ids (b - 1) 0 ≡ v → ⊥) → isNamed b ids v ≡ isNamed (b - 1) ids v
-  unfolding isNamed or
+  pub named-here : (b : ℕ) → 0 < b → getD ids (b - 1) 0 ≡ v → owned b (idsNet ids) v ≡ true
+  unfolding owned
+  named-here zero h e = absurd (omega arith)
+  named-here (suc b) h e = or-first _ (eq-eqb (idsNet ids .base (suc b) .own) v (own-is (suc b) ∙ e))
+
+  pub named-below : (b : ℕ) → 0 < b → (getD ids (b - 1) 0 ≡ v → ⊥) → owned b (idsNet ids) v ≡ owned (b - 1) (idsNet ids) v
+  unfolding owned or
   named-below zero h e = absurd (omega arith)
   named-below (suc b) h e =
-      rw (ne-eqb (getD ids b 0) v (λ q. e (ap (λ (i : ℕ). getD ids i 0) (sym (less b)) ∙ q))) (ap (λ (i : ℕ). isNamed i ids v) (less b))
+      rw (ne-eqb (idsNet ids .base (suc b) .own) v (λ q. e (sym (own-is (suc b)) ∙ q))) (ap (λ (i : ℕ). owned i (idsNet ids) v) (less b))
 
-  pub named-none : (b : ℕ) → b ≤ 0 → isNamed b ids v ≡ false
-  unfolding isNamed
+  pub named-none : (b : ℕ) → b ≤ 0 → owned b (idsNet ids) v ≡ false
+  unfolding owned
   named-none zero h = refl
   named-none (suc b) h = absurd (omega arith)
 
   -- 3, and where that is not given 14
   module _ {own : ℕ} (given : own ≡ ownRefusal v) where
-    pub no-identifier : (own ≡ 0 → ⊥) → own ≡ idNumber ids v
-    unfolding idNumber
+    pub no-identifier : (own ≡ 0 → ⊥) → own ≡ idRefusal (idsNet ids) v
+    unfolding idRefusal
     no-identifier n = given ∙ sym (first-given _ (λ z. n (given ∙ z)))
 
-    pub two-owners : own ≡ 0 → {r : Bool} → r ≡ isNamed mostBases ids v → r ≡ true → 14 ≡ idNumber ids v
-    unfolding idNumber
+    pub two-owners : own ≡ 0 → {r : Bool} → r ≡ owned mostBases (idsNet ids) v → r ≡ true → 14 ≡ idRefusal (idsNet ids) v
+    unfolding idRefusal
     two-owners none e y = sym (first-none _ (sym given ∙ none) ∙ choose-yes 14 0 (sym e ∙ y))
 
-    pub one-owner : own ≡ 0 → {r : Bool} → r ≡ isNamed mostBases ids v → r ≡ false → 0 ≡ idNumber ids v
-    unfolding idNumber
+    pub one-owner : own ≡ 0 → {r : Bool} → r ≡ owned mostBases (idsNet ids) v → r ≡ false → 0 ≡ idRefusal (idsNet ids) v
+    unfolding idRefusal
     one-owner none e y = sym (first-none _ (sym given ∙ none) ∙ choose-no 14 0 (sym e ∙ y))

@@ -16,7 +16,7 @@ use Rattle.protocol.specs.declared.Base.{Base}
 use Rattle.net.specs.Abstraction.{netOf, size}
 use Rattle.schedule.specs.Report.{lineRoom, baseLine, baseLines}
 use Rattle.schedule.specs.Report.Laws.{bases-none, bases-more}
-use Rattle.stored_walk.specs.Turn.{base-there}
+use Rattle.stored_walk.specs.Reaching.{base-there}
 use Rattle.base_lines.proofs.base_lines.Statement.{statement}
 use Rattle.base_lines.proofs.base_lines.Tie as tie
 

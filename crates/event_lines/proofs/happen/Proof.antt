@@ -4,7 +4,7 @@ use denote.Ref.{now}
 use Rattle.node_calls.specs.declared.Told.{Told}
 use Rattle.node_calls.specs.Calls.{told}
 use Rattle.stored_walk.specs.State.{HasBytes}
-use Rattle.stored_walk.specs.Turn.{reachedBy}
+use Rattle.stored_walk.specs.Reaching.{reachedBy}
 use borrow.Author.Needs.{needs}
 use Rattle.event_lines.proofs.happen.Statement.{statement}
 use Rattle.event_lines.proofs.happen.Tie as tie

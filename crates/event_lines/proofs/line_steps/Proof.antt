@@ -16,7 +16,7 @@ use Rattle.schedule.specs.Walk.{nextLine, repeat}
 use Rattle.schedule.specs.Walk.Laws.{repeat-none, repeat-more, repeat-done}
 use Rattle.stored_walk.specs.State.{mostLines, HasBytes, refusedNet, onwardNet, happened, replaying, lineAfter}
 use Rattle.stored_walk.specs.State.Laws.{line-stays, line-stopped, line-goes-on, line-after, line-refused, line-onward, told-bytes}
-use Rattle.stored_walk.specs.Turn.{stored, turned}
+use Rattle.stored_walk.specs.Reaching.{stored, line-stored}
 use Rattle.event_lines.proofs.line_steps.Statement.{statement}
 use Rattle.event_lines.proofs.line_steps.Tie as tie
 
@@ -56,7 +56,7 @@ happens : (c : Happened) → next-net c ≡ happened (text c) (net c) (read c .e
 unfolding faultyOf
 happens c =
     let places = c .before .before .before .before .places-of .ensures in
-    turned (text c) (net c) (net c .at) (read c .event-line .result)
+    line-stored (text c) (net c) (net c .at) (read c .event-line .result)
     (more c .1 .0) (read c .event-line .ensures) (places .0 .0) (places .1 .0 .0) (c .happen .ensures)
 
 fewer : (c : Happened) → turn c .loop .i + 1 ≤ turn c .before .before .args .most

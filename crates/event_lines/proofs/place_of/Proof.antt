@@ -1,5 +1,5 @@
 -- `event_lines::place_of` meets its contract: by the range of the number.
-use Rattle.stored_walk.specs.Turn.{nodePlace}
+use Rattle.stored_walk.specs.Reaching.{nodePlace}
 use Rattle.node.specs.Node.Within.{is-within, below-one, above-most}
 use Rattle.lists.specs.Choice.Laws.{chosen-yes, chosen-no}
 use mathlib.Core.Path.{refl}

@@ -2,7 +2,7 @@
 use mathlib.Core.Path.{refl}
 use borrow.Author.Needs.{needs}
 use Rattle.stored_walk.specs.State.{nextOf}
-use Rattle.stored_walk.specs.Turn.{senderOf, receiverOf}
+use Rattle.stored_walk.specs.Reaching.{senderOf, receiverOf}
 use Rattle.event_lines.proofs.places_of.Statement.{statement}
 use Rattle.event_lines.proofs.places_of.Tie as tie
 

@@ -127,11 +127,11 @@ unmarked u link bytes a =
 -- ---- a carry: numbers 16 and 17
 module _ (v u : Node) (faulty : List Nets.Pair) (a b k : ℕ) where
   pub not-numbered : k ≡ 0 → 16 ≡ carryRefusal v u faulty a b k
-  unfolding carryRefusal
+  unfolding carryRefusal eventRefusal
   not-numbered e = chosen-yes _ (or-first _ (eq-eqb k 0 e)) refl
 
   pub not-broadcast : {n : ℕ} → n ≡ length (logOf v) → n < k → 16 ≡ carryRefusal v u faulty a b k
-  unfolding carryRefusal
+  unfolding carryRefusal eventRefusal
   not-broadcast e h = chosen-yes _ (or-second (eqb k 0) (ap (λ (x : ℕ). ltb x k) (sym e) ∙ lt-ltb _ k h)) refl
 
   module _ (some : k ≢ 0) {n : ℕ} (e : n ≡ length (logOf v)) (h : k ≤ n) where
@@ -139,15 +139,15 @@ module _ (v u : Node) (faulty : List Nets.Pair) (a b k : ℕ) where
     there = or-neither (ne-eqb k 0 some) (ap (λ (x : ℕ). ltb x k) (sym e) ∙ le-ltb _ k h)
 
     pub repeated : {g d : Bool} → g ≡ good faulty a b → g ≡ true → d ≡ heardBy u a k → d ≡ true → 17 ≡ carryRefusal v u faulty a b k
-    unfolding carryRefusal
+    unfolding carryRefusal eventRefusal
     repeated eg g ed d = chosen-no _ there (chosen-yes _ (and-both (sym eg ∙ g) (sym ed ∙ d)) refl)
 
     pub first-time : {d : Bool} → d ≡ heardBy u a k → d ≡ false → 0 ≡ carryRefusal v u faulty a b k
-    unfolding carryRefusal
+    unfolding carryRefusal eventRefusal
     first-time ed d = chosen-no _ there (chosen-no _ (ap (and (good faulty a b)) (sym ed ∙ d) ∙ and-no _) refl)
 
     pub on-a-faulty-link : {g : Bool} → g ≡ good faulty a b → g ≡ false → 0 ≡ carryRefusal v u faulty a b k
-    unfolding carryRefusal
+    unfolding carryRefusal eventRefusal
     on-a-faulty-link eg g = chosen-no _ there (chosen-no _ (sym (and-fails _ (sym eg ∙ g))) refl)
 
 -- ---- a carry
@@ -175,15 +175,27 @@ module _ (v u : Node) (faulty : List Nets.Pair) (a b k : ℕ) {n : ℕ} (en : n 
 
 -- ---- a forgery
 module _ (u : Node) (faulty : List Nets.Pair) (a b : ℕ) (bytes : List ℕ) {g : Bool} (eg : g ≡ good faulty a b) where
+  -- the number, and the base, by whether the link is good
+  abbrev forged : Bool → Reached
+  forged t = record {
+    refusal = choose t 18 0;
+    node = choose (eqb (choose t 18 0) 0) (Nodes.nodeAfter u (arrival (u .base) (linkTo b a) bytes outputRoom)) u;
+  }
+
+  forged-by : (t : Bool) → g ≡ t → forged t ≡ forgedTo u faulty a b bytes
+  unfolding forgedTo eventRefusal
+  forged-by t e = ap forged (sym e ∙ eg)
+
   pub forge-refused : g ≡ true → record { refusal = 18; node = u } ≡ forgedTo u faulty a b bytes
-  unfolding forgedTo
-  forge-refused t = chosen-yes _ (sym eg ∙ t) refl
+  unfolding choose
+  forge-refused t = forged-by true t
 
   pub forge-heard : g ≡ false → {link : ℕ} → link ≡ linkTo b a → {m : Node} → m ≡ heardBurst u link bytes a 0
       → record { refusal = 0; node = m } ≡ forgedTo u faulty a b bytes
-  unfolding forgedTo
-  forge-heard f el em = chosen-no _ (sym eg ∙ f) (ap (λ (x : Node). record { refusal = 0; node = x })
-      (em ∙ ap (λ (l : ℕ). heardBurst u l bytes a 0) el ∙ unmarked u (linkTo b a) bytes a))
+  unfolding choose
+  forge-heard f el em = ap (λ (x : Node). record { refusal = 0; node = x })
+      (em ∙ ap (λ (l : ℕ). heardBurst u l bytes a 0) el ∙ unmarked u (linkTo b a) bytes a)
+      ∙ forged-by false f
 
 -- ---- what they do to the net
 -- storing what is there changes nothing
@@ -235,7 +247,7 @@ forge-reaches w a b bytes = go (good (faultyOf w) a b)
     d : Done
     d = arrival (u .base) (linkTo b a) bytes outputRoom
 
-    go : (t : Bool) → _≡_ {A = Reached} (choose t (record { refusal = 18; node = u }) (record { refusal = 0; node = Nodes.nodeAfter u d }))
+    go : (t : Bool) → _≡_ {A = Reached} (record { refusal = choose t 18 0; node = choose (eqb (choose t 18 0) 0) (Nodes.nodeAfter u d) u })
         (record {
           refusal = choose t 18 0;
           node = choose (eqb (first (choose t 18 0) (callRefusal (d .answer))) 0) (Nodes.nodeAfter u d) u;

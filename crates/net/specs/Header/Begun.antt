@@ -1,25 +1,23 @@
 -- The net that a header gives: each line of the header does to it what it does to the net.
-use Prim.Native.Nat.{ℕ, zero, suc, _+_, _-_, _≤_, _<_}
+use Prim.Native.Nat.{ℕ, zero, suc, _-_, _≤_, _<_}
 use mathlib.Core.Path.{_≡_, refl, sym, ap, _∙_}
 use mathlib.Core.Bool.{Bool, true, false}
 use mathlib.Core.List.{List, [], _∷_, map}
 use native.Mathlib.Omega.{arith}
-use lib.Dec.{eqb}
-use lib.ListN.{length, getD, set, replicate, length-map, List·getD-map}
+use lib.ListN.{length, getD, set, replicate}
 use Rattle.limits.specs.Limits.{mostBases}
-use Rattle.limits.specs.Refusals.{ownRefusal}
-use Rattle.lists.specs.Choice.{choose, or, first}
+use Rattle.lists.specs.Choice.{choose}
 use Rattle.lists.specs.Choice.Laws.{choose-yes}
 use Rattle.protocol.specs.Sound.{idleBase}
 use Rattle.protocol.specs.Net as Nets
+use Rattle.protocol.specs.Agreement.Premise.{idleNet}
 use Rattle.node.specs.declared.Node.{Node}
 use Rattle.node.specs.Node.{inRange, withBase}
 use Rattle.node.specs.Node.Within.{is-within, within-range}
 use Rattle.schedule.specs.Header.{owned, idRefusal}
 use Rattle.faulty_links.specs.Faulty.{noFaulty}
-use Rattle.base_identifiers.specs.Identifiers.{namedIds, isNamed, idNumber}
+use Rattle.base_identifiers.specs.Identifiers.{namedIds, idsNet}
 use Rattle.net.specs.declared.Header.{Header}
-use Rattle.net.specs.declared.StoredNet.{StoredNet}
 use Rattle.net.specs.Abstraction.{noNode, emptyNode, nodeAt, withNode, withNodes, netOf}
 use Rattle.net.specs.Header.{madeNet, namedNet, idleNode, begunNet}
 
@@ -86,20 +84,15 @@ module _ (h : Header) (sized : length (h .ids) ≡ mostBases) where
       go false B = unfold choose in refl
 
   -- ---- whether an identifier is new
-  own-is : (k : ℕ) → suc k ≤ mostBases → netOf (begunNet h) .base (suc k) .own ≡ getD (h .ids) k 0
-  unfolding netOf idleNode withBase idleBase
-  own-is k l =
-      ap (λ (x : Node). x .base .own) (begun-node (suc k) (is-within {x = suc k} {most = mostBases} (omega arith) l))
-      ∙ ap (λ (i : ℕ). getD (h .ids) i 0) less
-    where
-      less : suc k - 1 ≡ k
-      less = omega arith
+  own-is : (b : ℕ) → 1 ≤ b → b ≤ mostBases → netOf (begunNet h) .base b .own ≡ idsNet (h .ids) .base b .own
+  unfolding netOf idleNode withBase idleBase idleNet idsNet
+  own-is b least most = ap (λ (x : Node). x .base .own) (begun-node b (is-within {x = b} {most = mostBases} least most))
 
-  owned-is : (v k : ℕ) → k ≤ mostBases → owned k (netOf (begunNet h)) v ≡ isNamed k (h .ids) v
-  unfolding owned isNamed
+  owned-is : (v k : ℕ) → k ≤ mostBases → owned k (netOf (begunNet h)) v ≡ owned k (idsNet (h .ids)) v
+  unfolding owned
   owned-is v zero l = refl
-  owned-is v (suc k) l = rw (own-is k l, owned-is v k (omega arith))
+  owned-is v (suc k) l = rw (own-is (suc k) (omega arith) l, owned-is v k (omega arith))
 
-  pub id-number-is : (v : ℕ) → idNumber (h .ids) v ≡ idRefusal (netOf (begunNet h)) v
-  unfolding idNumber idRefusal
-  id-number-is v = ap (λ (t : Bool). first (ownRefusal v) (choose t 14 0)) (sym (owned-is v mostBases (omega arith)))
+  pub id-number-is : (v : ℕ) → idRefusal (idsNet (h .ids)) v ≡ idRefusal (netOf (begunNet h)) v
+  unfolding idRefusal
+  id-number-is v = rw (owned-is v mostBases (omega arith)) refl

@@ -1,7 +1,7 @@
 -- `node_calls::hear_message` meets its contract: the frames of a message that was read fit, and are those that it broadcast.
 use mathlib.Core.Path.{refl}
 use Rattle.node_calls.proofs.Words.{array-words}
-use Rattle.node_calls.specs.Calls.Tidy.{message-tidy}
+use Rattle.node_calls.specs.Calls.Storable.{message-storable}
 use Rattle.node_calls.specs.Calls.Laws.{call-fits, call-told}
 use Rattle.node.proofs.Sizes.{node-base}
 use borrow.Author.Needs.{needs}
@@ -21,14 +21,14 @@ settle-requires : tie.Need-settle-requires
 settle-requires c κs =
     let s = c .before .before .before .before in
     let G = s .good .1 .1 .1 .0 in
-    call-fits (s .args .node) _ (message-tidy _ _ _ _ _ (node-base (s .args .node) _ (s .good .0))
+    call-fits (s .args .node) _ (message-storable _ _ _ _ _ (node-base (s .args .node) _ (s .good .0))
     (G .1 .0 .1) (array-words (s .args .ids) (G .0) (G .1 .1))) _ refl (c .before .before .hear .ensures)
 
 returns : tie.Need-returns
 returns c =
     let s = c .before .before .before .before .before in
     let G = s .good .1 .1 .1 .0 in
-    call-told (s .args .node) _ (message-tidy _ _ _ _ _ (node-base (s .args .node) _ (s .good .0))
+    call-told (s .args .node) _ (message-storable _ _ _ _ _ (node-base (s .args .node) _ (s .good .0))
     (G .1 .0 .1) (array-words (s .args .ids) (G .0) (G .1 .1))) _ refl (c .before .before .before .hear .ensures) (c .settle .ensures)
 
 pub hear-message-spec : {M : Type 1} → statement M

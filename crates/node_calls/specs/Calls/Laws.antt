@@ -30,7 +30,7 @@ use Rattle.node_calls.specs.declared.Told.{Told}
 use Rattle.node.specs.Node.{mostBroadcasts, storedFrame, joined, joinedAll, withBase, nodeAfter}
 use Rattle.protocol.specs.Steps.Sizes.{length-encode}
 use Rattle.node_calls.specs.Calls.{told, keptOf, keptFrom, AllFit, Fitting, settledOf}
-use Rattle.node_calls.specs.Calls.Tidy.{AllShort, Tidy}
+use Rattle.node_calls.specs.Calls.Storable.{AllShort, Storable}
 
 pub copied : (out : List ℕ) (from len i : ℕ) → i < len → len ≤ longestFrame → from + len ≤ length out
     → set (padTo longestFrame (take i (drop from out))) i (getD out (from + i) 0) ≡ padTo longestFrame (take (i + 1) (drop from out))
@@ -125,7 +125,7 @@ short-at [] k p = omega arith
 short-at (m ∷ says) zero p = p .0
 short-at (m ∷ says) (suc k) p = short-at says k (p .1)
 
-module _ (v : Node) (d : Done) (T : Tidy (v .base) d) (out : List ℕ) (wide : length out ≡ outputRoom) where
+module _ (v : Node) (d : Done) (T : Storable (v .base) d) (out : List ℕ) (wide : length out ≡ outputRoom) where
   fit : AllFit (length (outputOf d out)) 0 (threeOf (d .says))
   unfolding outputOf
   fit = (

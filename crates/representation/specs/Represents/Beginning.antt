@@ -36,7 +36,7 @@ use Rattle.representation.specs.Represents.Tables.{
   node-replaced,
   with-node-sized,
   with-node-links,
-  node-sized,
+  node-at-sized,
 }
 
 -- ---- a base at the beginning
@@ -111,7 +111,7 @@ represents-named b v least most {w} {n} {t} {faulty} {W} S = record {
     u = withBase (nodeAt w b) (idleBase (w .n) (w .t) v)
 
     old : SizedNode (nodeAt w b)
-    old = node-sized w b B (S .sized)
+    old = node-at-sized w b B (S .sized)
 
     node-now : (y : ℕ) → nodeAt (withNode w b u) y ≡ replaced b u (nodeAt w) y
     node-now = node-replaced w b u B (S .sized .nodes)

@@ -51,14 +51,14 @@ map-snoc : (frames : List Frame) (f : Frame) → map written (frames ++ (f ∷ [
 map-snoc [] f = refl
 map-snoc (g ∷ frames) f = ap (λ (l : List (List ℕ)). written g ∷ l) (map-snoc frames f)
 
-counted : (v : Node) → SizedNode v → length (logOf v) < mostBroadcasts → v .count < mostBroadcasts
+count-below : (v : Node) → SizedNode v → length (logOf v) < mostBroadcasts → v .count < mostBroadcasts
 unfolding logOf
-counted v Z h = omega (arith, length-map (take (v .count) (v .frames)) written, length-take (v .count) (v .frames), Z .frames)
+count-below v Z h = omega (arith, length-map (take (v .count) (v .frames)) written, length-take (v .count) (v .frames), Z .frames)
 
 joined-log : (v : Node) (bytes : List ℕ)
     → SizedNode v → length (logOf v) < mostBroadcasts → logOf (joined v bytes) ≡ logOf v ++ (bytes ∷ [])
 unfolding joined
-joined-log v bytes Z h = ap logOf (choose-yes _ _ (lt-ltb (v .count) mostBroadcasts (counted v Z h))) ∙ stored
+joined-log v bytes Z h = ap logOf (choose-yes _ _ (lt-ltb (v .count) mostBroadcasts (count-below v Z h))) ∙ stored
   where
     stored : logOf (record {
       base = v .base;
@@ -67,7 +67,7 @@ joined-log v bytes Z h = ap logOf (choose-yes _ _ (lt-ltb (v .count) mostBroadca
       heard = v .heard;
     }) ≡ logOf v ++ (bytes ∷ [])
     stored = unfold logOf in rw (add-one (v .count))
-        (ap (map written) (take-suc-set (v .frames) (v .count) (storedFrame bytes) (omega (arith, counted v Z h, Z .frames)))
+        (ap (map written) (take-suc-set (v .frames) (v .count) (storedFrame bytes) (omega (arith, count-below v Z h, Z .frames)))
         ∙ map-snoc (take (v .count) (v .frames)) (storedFrame bytes)
         ∙ ap (λ (b : List ℕ). map written (take (v .count) (v .frames)) ++ (b ∷ [])) (written-frame bytes))
 

@@ -33,7 +33,7 @@ use Rattle.representation.specs.Represents.Tables.{
   node-replaced,
   with-node-sized,
   with-node-links,
-  node-sized,
+  node-at-sized,
 }
 
 -- ---- the marks of an event
@@ -94,7 +94,7 @@ module _ (w : StoredNet) (e : Event) (Z : SizedNet w) (B : inRange (at e) mostBa
   u = marks e (Nodes.nodeAfter v d)
 
   sized-here : SizedNode v
-  sized-here = node-sized w (at e) B Z
+  sized-here = node-at-sized w (at e) B Z
 
   node-now : (y : ℕ) → nodeAt (withNode w (at e) u) y ≡ replaced (at e) u (nodeAt w) y
   node-now = node-replaced w (at e) u B (Z .nodes)

@@ -85,7 +85,7 @@ module _ (w : StoredNet) (b : ℕ) (v : Node) (B : inRange b mostBases ≡ true)
   unfolding faultyOf
   with-node-links = ap faultyOf with-node-is
 
-pub node-sized : (w : StoredNet) (b : ℕ) → inRange b mostBases ≡ true → SizedNet w → SizedNode (nodeAt w b)
+pub node-at-sized : (w : StoredNet) (b : ℕ) → inRange b mostBases ≡ true → SizedNet w → SizedNode (nodeAt w b)
 unfolding nodeAt
-node-sized w b B Z = let r = within-range b mostBases B in
+node-at-sized w b B Z = let r = within-range b mostBases B in
     subst SizedNode (sym (choose-yes (getD (w .nodes) (b - 1) noNode) (emptyNode (w .n) (w .t)) B)) (Z .each (b - 1) (omega arith))

@@ -80,7 +80,7 @@ module _ (w : StoredNet) (few : w .n ≤ mostBases) where
   event-is e B q = rw q (ap (λ (x : StoredNet). record { refusal = eventRefusal (faultyOf w) (netOf w) e; net = x })
       (stored-there (at e) (reachedNode w e) B ∙ reached-stored w e))
 
-  turn-is : (s : List ℕ) (p : ℕ) (x : Line) → EventTold (w .n) s p x
+  line-is : (s : List ℕ) (p : ℕ) (x : Line) → EventTold (w .n) s p x
       → record {
         refusal = reachedBy s (standing w (senderOf x)) (standing w (receiverOf x)) (faultyOf w) x .refusal;
         net = stored
@@ -88,30 +88,30 @@ module _ (w : StoredNet) (few : w .n ≤ mostBases) where
       }
       ≡ happened s w x
   unfolding senderOf receiverOf reachedBy happened at
-  turn-is s p (Start b next) T =
+  line-is s p (Start b next) T =
       let B = in-net b (T .0) in
       let none : 0 ≡ eventRefusal (faultyOf w) (netOf w) (starts b outputRoom) = unfold eventRefusal in refl in
       event-is (starts b outputRoom)
       B (ap₂ (λ (r : ℕ) (v : Node). record { refusal = r; node = v }) none (rw (node-there b B) (start-reaches w b)))
-  turn-is s p (Carry a b k next) T =
+  line-is s p (Carry a b k next) T =
       let t = two-range (w .n) a b (T .0) in
       let A = in-net a (t .0) in
       let B = in-net b (t .1 .0) in
       event-is (carry a b k outputRoom) B (rw (node-there a A, node-there b B) (carry-reaches w a b k))
-  turn-is s p (Forge a b i count next) T =
+  line-is s p (Forge a b i count next) T =
       let t = two-range (w .n) a b (T .0) in
       let B = in-net b (t .1 .0) in
       event-is (forge a b (hexBytes count (drop i s)) outputRoom)
       B (rw (node-there b B) (forge-reaches w a b (hexBytes count (drop i s))))
-  turn-is s p Wrong T =
+  line-is s p Wrong T =
       ap (λ (l : List Node). record { refusal = 13; net = withNodes w l }) (set-self (w .nodes) (nodePlace 0) noNode)
 
 -- the line that the loop read
-pub turned : (s : List ℕ) (w : StoredNet) (p : ℕ) (x : Line) {i j : ℕ} {r : Reached}
+pub line-stored : (s : List ℕ) (w : StoredNet) (p : ℕ) (x : Line) {i j : ℕ} {r : Reached}
     → w .n ≤ mostBases → x ≡ eventLine (w .n) s p → j ≡ nodePlace (senderOf x) → i ≡ nodePlace (receiverOf x)
     → r ≡ reachedBy s (getD (w .nodes) j noNode) (getD (w .nodes) i noNode) (faultyOf w) x
     → record { refusal = r .refusal; net = stored w i (r .node) } ≡ happened s w x
-turned s w p x few ex ej ei er = rw (er, ej, ei) (turn-is w few s p x (subst (EventTold (w .n) s p) (sym ex) (event-told (w .n) s p)))
+line-stored s w p x few ex ej ei er = rw (er, ej, ei) (line-is w few s p x (subst (EventTold (w .n) s p) (sym ex) (event-told (w .n) s p)))
 
 -- the record at a place
 pub base-there : (w : StoredNet) (i : ℕ) → i < mostBases → getD (w .nodes) i noNode .base ≡ netOf w .base (i + 1)

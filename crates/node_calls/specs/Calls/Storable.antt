@@ -122,30 +122,31 @@ arrival-stepped b i m H =
     (ends-stepped {b = begun b} (unfold withState in n) h (message-ends (begun b) i m))) (λ _. ends-stepped n h (message-ends b i m))
 
 -- ---- the calls
-pub record Tidy (b : Base) (d : Done) : Type 0 where
+-- what a call broadcasts has room where the program keeps it, and a call that is turned down changes nothing
+pub record Storable (b : Base) (d : Done) : Type 0 where
   pub brief : Brief 3 outputRoom d
   pub small : AllShort (d .says)
   pub down : (r : ℕ) → d .answer ≡ refused r → Unchanged b d
 
-refuses-tidy : (b : Base) (r : ℕ) → Tidy b (refuses b r)
+refuses-storable : (b : Base) (r : ℕ) → Storable b (refuses b r)
 unfolding refuses encodeAll
-refuses-tidy b r = record {
+refuses-storable b r = record {
   brief = record { few = omega arith; small = omega arith };
   small = tt;
   down = λ _ _. record { base = refl; says = refl };
 }
 
-stepped-tidy : (b : Base) (d : Done) → Brief 3 outputRoom d → Stepped d → Tidy b d
-stepped-tidy b d B S = record { brief = B; small = S .small; down = λ r e. absurd (S .answered r e) }
+stepped-storable : (b : Base) (d : Done) → Brief 3 outputRoom d → Stepped d → Storable b d
+stepped-storable b d B S = record { brief = B; small = S .small; down = λ r e. absurd (S .answered r e) }
 
-heard-tidy : (b : Base) (i : ℕ) (m : Message) → Sized b → Heard b i m → Tidy b (arrivalStep b i m)
-heard-tidy b i m S H = stepped-tidy b _ (arrival-step-brief b i m S H) (arrival-stepped b i m H)
+heard-storable : (b : Base) (i : ℕ) (m : Message) → Sized b → Heard b i m → Storable b (arrivalStep b i m)
+heard-storable b i m S H = stepped-storable b _ (arrival-step-brief b i m S H) (arrival-stepped b i m H)
 
-pub start-tidy : (b : Base) (room : ℕ) → Tidy b (start b room)
-start-tidy b room = start-cases (Tidy b) b room (λ r _. refuses-tidy b r)
-    (λ _. stepped-tidy b _ (start-step-brief b) (start-step-cases Stepped b (λ _. begins-stepped b) (λ _. discards-stepped b)))
+pub start-storable : (b : Base) (room : ℕ) → Storable b (start b room)
+start-storable b room = start-cases (Storable b) b room (λ r _. refuses-storable b r)
+    (λ _. stepped-storable b _ (start-step-brief b) (start-step-cases Stepped b (λ _. begins-stepped b) (λ _. discards-stepped b)))
 
-pub message-tidy : (b : Base) (link kind : ℕ) (ids : List ℕ) (room : ℕ) → Sized b → length ids ≡ mostBases → Below (2 ^ 32) ids
-    → Tidy b (messageArrival b link kind ids room)
-message-tidy b link kind ids room S l words = message-cases b link kind ids room (Tidy b) (refuses-tidy b)
-    (λ p e. heard-tidy b _ _ S (message-heard b link kind ids room l words p e))
+pub message-storable : (b : Base) (link kind : ℕ) (ids : List ℕ) (room : ℕ) → Sized b → length ids ≡ mostBases → Below (2 ^ 32) ids
+    → Storable b (messageArrival b link kind ids room)
+message-storable b link kind ids room S l words = message-cases b link kind ids room (Storable b) (refuses-storable b)
+    (λ p e. heard-storable b _ _ S (message-heard b link kind ids room l words p e))
