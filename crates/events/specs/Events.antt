@@ -47,11 +47,6 @@ seenNet v u = record { base = λ x. u .base; log = λ x. logOf v; carried = λ x
 unfoldable pub carryRefusal : Node → Node → List Nets.Pair → ℕ → ℕ → ℕ → ℕ
 carryRefusal v u faulty a b k = eventRefusal faulty (seenNet v u) (carry a b k outputRoom)
 
--- a burst arrives: the base after it, marked as a's k-th broadcast, or as it was where the call turned it down
-unfoldable pub heardBurst : Node → ℕ → List ℕ → ℕ → ℕ → Node
-heardBurst u link bytes a k =
-    let d = arrival (u .base) link bytes outputRoom in choose (eqb (callRefusal (d .answer)) 0) (marked (Nodes.nodeAfter u d) a k) u
-
 -- a carry, of the sender and the receiver: the receiver as it leaves it
 unfoldable pub carryCall : Node → Node → ℕ → ℕ → ℕ → Done
 carryCall v u a b k = arrival (u .base) (linkTo b a) (getD (logOf v) (k - 1) []) outputRoom

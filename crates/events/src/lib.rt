@@ -1,9 +1,5 @@
 // A carry and a forgery, each on the nodes that it names. What is turned down, by 16 to 18 or by the base's call, leaves the base
 // that it would reach as it was. A start is the call alone (crate `node_calls`). Crate `representation` has what these do to the net.
-mod hearing;
-
-use crate::hearing::hear_burst;
-use crate::hearing::hear_frame;
 use faulty_links::Faulty;
 use faulty_links::is_good;
 use limits::refusal;
@@ -11,6 +7,8 @@ use node::Node;
 use node::log::broadcast;
 use node::log::broadcasts;
 use node::marks::heard;
+use node_arrivals::hear_burst;
+use node_arrivals::hear_frame;
 use numbering::link_to;
 ghost use mathlib.Core.Path.{_≡_};
 ghost use Rattle.faulty_links.specs.Faulty.{pairsOf};

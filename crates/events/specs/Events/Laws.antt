@@ -1,17 +1,15 @@
 -- An event in its parts: turned down by 16 to 18, turned down by the base's call, or reaching the base; and that storing the base
 -- that it reached gives the net after the event.
-use Prim.Native.Nat.{ℕ, zero, suc, _+_, _*_, _-_, _<_, _≤_}
+use Prim.Native.Nat.{ℕ, zero, suc, _-_, _<_, _≤_}
 use mathlib.Core.Path.{_≡_, refl, sym, ap, ap₂, _∙_}
 use mathlib.Core.Logic.{_≢_}
 use mathlib.Core.Bool.{Bool, true, false}
 use mathlib.Core.List.{List, [], _∷_}
 use native.Mathlib.Omega.{arith}
 use borrow.Author.Tests.{eq-eqb, ne-eqb, eqb-false, lt-ltb, le-ltb}
-use lib.ListN.{length, getD, set, take, drop}
+use lib.ListN.{length, getD, set}
 use lib.Dec.{eqb, ltb}
 use Rattle.limits.specs.Limits.{mostBases, outputRoom}
-use Rattle.limits.specs.Refusals.{netRefusal}
-use Rattle.limits.specs.Refusals.Laws.{net-passes}
 use Rattle.lists.specs.Choice.{choose, and, or, first}
 use Rattle.lists.specs.Choice.Laws.{
   chosen-yes,
@@ -24,35 +22,24 @@ use Rattle.lists.specs.Choice.Laws.{
   or-neither,
   first-none,
   first-given,
-  first-passed,
 }
-use Rattle.frame.specs.Reading.{burstRefusal, readRefusal}
-use Rattle.reader.specs.declared.Reading.the-variants.{Message, Refused}
-use Rattle.decoding.specs.Decoding.{idArray}
-use Rattle.reader.specs.Answers.{readingOf}
-use Rattle.reader.specs.Answers.Laws.{reading-refused}
-use Rattle.reader.specs.Answers.Place.{body-there}
 use Rattle.protocol.specs.Numbering.{linkTo}
-use Rattle.protocol.specs.Sound.Laws.{record-passed}
-use Rattle.protocol.specs.Steps.{Done, start, arrival, arrivalRefusal}
-use Rattle.protocol.specs.Steps.Answers.{arrival-number, start-refused, arrival-refused}
+use Rattle.protocol.specs.Steps.{Done, start, arrival}
+use Rattle.protocol.specs.Steps.Answers.{start-refused, arrival-refused}
 use Rattle.protocol.specs.Net.{Event, starts, carry, forge, at, good, broadcast, call, callRefusal, eventRefusal, refusal}
 use Rattle.protocol.specs.Net as Nets
-use Rattle.engine.specs.Hearing.{messageArrival}
-use Rattle.engine.specs.Hearing.Bursts.{read-heard}
 use Rattle.node.specs.declared.Frame.{Frame}
 use Rattle.node.specs.declared.Node.{Node}
-use Rattle.node_calls.specs.declared.Told.{Told}
 use Rattle.node.specs.Node.{mostBroadcasts, inRange, logOf, frameAt, written, heardBy, marked}
-use Rattle.node_calls.specs.Calls.{told}
 use Rattle.node_calls.specs.Calls.Laws.{after-unchanged}
+use Rattle.node_arrivals.specs.Arrivals.{heardBurst}
 use Rattle.node.specs.Node as Nodes
 use Rattle.node.specs.Node.Log.{frame-written}
 use Rattle.node.specs.Node.Within.{below-one}
 use Rattle.net.specs.declared.StoredNet.{StoredNet}
 use Rattle.net.specs.Abstraction.{noNode, emptyNode, nodeAt, withNode, withNodes, netOf, faultyOf}
 use Rattle.events.specs.declared.Reached.{Reached}
-use Rattle.events.specs.Events.{marks, after, carryRefusal, heardBurst, carryCall, carriedTo, forgedTo}
+use Rattle.events.specs.Events.{marks, after, carryRefusal, carryCall, carriedTo, forgedTo}
 
 -- ---- a call that is turned down
 module _ (u : Node) where
@@ -69,46 +56,6 @@ unless-down {n} {x} {u} f = go (eqb n 0) refl
     go : (t : Bool) → eqb n 0 ≡ t → x ≡ choose t x u
     go true e = unfold choose in refl
     go false e = unfold choose in f (eqb-false n 0 e)
-
--- ---- a burst that arrives
-module _ (u : Node) (link : ℕ) (bytes : List ℕ) (a k : ℕ) where
-  -- the burst of a call that is not turned down was read
-  call-read : callRefusal (arrival (u .base) link bytes outputRoom .answer) ≡ 0 → readRefusal (u .base .n) bytes ≡ 0
-  unfolding arrivalRefusal readRefusal
-  call-read z =
-      let p = first-passed _ _ (sym (arrival-number (u .base) link bytes outputRoom) ∙ z) in
-      let net : netRefusal (u .base .n) ≡ 0 = net-passes (record-passed (u .base) (p .0) .net) in
-      let burst : burstRefusal (u .base .n) bytes ≡ 0 = first-passed _ _ (first-passed _ _ (p .1) .1) .1 in
-      first-none (burstRefusal (u .base .n) bytes) net ∙ burst
-
-  pub burst-unread : {r : ℕ} → readingOf (u .base .n) bytes ≡ Refused r → u ≡ heardBurst u link bytes a k
-  unfolding heardBurst
-  burst-unread {r} e =
-      let q = reading-refused (u .base .n) bytes r e in chosen-no _ (ne-eqb _ 0 (λ z. q .1 (sym (q .0) ∙ call-read z))) refl
-
-  -- what was read arrives
-  module _ {kind count start : ℕ} (e : readingOf (u .base .n) bytes ≡ Message kind count start)
-      {ids : List ℕ} (ei : ids ≡ idArray (take (start + 4 * count - start) (drop start bytes)))
-      {t : Told} (et : t ≡ told u (messageArrival (u .base) link kind ids outputRoom)) where
-    is-told : t ≡ told u (arrival (u .base) link bytes outputRoom)
-    is-told = et ∙ ap (told u)
-        (sym (read-heard (u .base) link bytes outputRoom _ _ _ e ids (ei ∙ ap idArray (body-there _ _ _ _ _ e))))
-
-    its-number : t .refusal ≡ callRefusal (arrival (u .base) link bytes outputRoom .answer)
-    unfolding told
-    its-number = ap (λ (x : Told). x .refusal) is-told
-
-    its-node : t .node ≡ Nodes.nodeAfter u (arrival (u .base) link bytes outputRoom)
-    unfolding told
-    its-node = ap (λ (x : Told). x .node) is-told
-
-    pub burst-unheard : t .refusal ≢ 0 → u ≡ heardBurst u link bytes a k
-    unfolding heardBurst
-    burst-unheard some = chosen-no _ (ne-eqb _ 0 (λ z. some (its-number ∙ z))) refl
-
-    pub burst-heard : t .refusal ≡ 0 → {m : Node} → m ≡ marked (t .node) a k → m ≡ heardBurst u link bytes a k
-    unfolding heardBurst
-    burst-heard none em = chosen-yes _ (eq-eqb _ 0 (sym its-number ∙ none)) (em ∙ ap (λ (x : Node). marked x a k) its-node)
 
 -- no broadcast's number
 unnumbered : (v : Node) (a : ℕ) → marked v a 0 ≡ v

@@ -1,4 +1,4 @@
--- `events::hearing::hear_frame` meets its contract: the bytes of a frame are as many of its array as its length says.
+-- `node_arrivals::hear_frame` meets its contract: the bytes of a frame are as many of its array as its length says.
 use Rattle.node.proofs.Sizes.{frame-sized}
 use Rattle.node.specs.Node.{written}
 use native.Mathlib.Omega.{arith}
@@ -7,8 +7,8 @@ use mathlib.Core.Path.{sym}
 use lib.ListN.{length}
 use lib.Seq.{take-all, length-take-le}
 use borrow.Author.Needs.{needs}
-use Rattle.events.proofs.hearing.hear_frame.Statement.{statement}
-use Rattle.events.proofs.hearing.hear_frame.Tie as tie
+use Rattle.node_arrivals.proofs.hear_frame.Statement.{statement}
+use Rattle.node_arrivals.proofs.hear_frame.Tie as tie
 
 room : (c : tie.Else1) → let f = c .before .before .args .frame in f .len ≤ length (f .bytes)
 room c = let s = c .before .before in omega (arith, frame-sized (s .args .frame) _ (s .good .1 .1 .0), c .if1 .left)

@@ -1,0 +1,54 @@
+// A burst arrives at a base of the program's net: its reading is taken apart, and what was read arrives.
+use decoding::identifiers;
+use limits::IDENTIFIER_BYTES;
+use limits::LONGEST_FRAME;
+use limits::MOST_BASES;
+use node::Frame;
+use node::Node;
+use node::marks::mark;
+use node_calls::hear_message;
+use reader::Reading;
+use reader::read;
+ghost use Prim.Native.Nat.{_+_, _*_, _-_, _≤_};
+ghost use mathlib.Core.Path.{_≡_};
+ghost use lib.ListN.{length, take, drop};
+ghost use Rattle.limits.specs.Limits.{longestBurst};
+ghost use Rattle.decoding.specs.Decoding.{idArray};
+ghost use Rattle.node.specs.Node.{written};
+ghost use Rattle.node_arrivals.specs.Arrivals.{heardBurst};
+
+// So many identifiers, from a place of the burst on.
+fn identifiers_at(burst: &[u8], start: usize, count: usize) -> [u32; MOST_BASES]
+    requires { ⌜ (start + 4 * count ≤ length (now burst)) × (length (now burst) ≤ longestBurst) ⌝ }
+    ensures { λ r. ⌜ r ≡ idArray (take (start + 4 * count - start) (drop start (now (burst .entry)))) ⌝ }
+{
+    identifiers(&burst[start..start + IDENTIFIER_BYTES * count])
+}
+
+// A burst that is not turned down is marked as a's k-th broadcast; 0 marks nothing.
+pub fn hear_burst(node: Node, link: usize, burst: &[u8], a: u8, k: usize) -> Node
+    ensures { λ r. ⌜ r ≡ heardBurst node link (now (burst .entry)) a k ⌝ }
+{
+    let Reading::Message { kind, count, start } = read(node.base.n as usize, burst) else {
+        return node;
+    };
+    let ids = identifiers_at(burst, start, count);
+    let told = hear_message(node, link, kind, ids);
+    if told.refusal != 0 {
+        return node;
+    }
+    let after = told.node;
+    mark(after, a, k)
+}
+
+// A frame arrives, as it was written.
+pub fn hear_frame(node: Node, link: usize, frame: Frame, a: u8, k: usize) -> Node
+    ensures { λ r. ⌜ r ≡ heardBurst node link (written frame) a k ⌝ }
+{
+    let bytes = frame.bytes;
+    let len = frame.len;
+    if LONGEST_FRAME < len {
+        return hear_burst(node, link, &bytes, a, k);
+    }
+    hear_burst(node, link, &bytes[..len], a, k)
+}
