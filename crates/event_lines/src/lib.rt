@@ -5,19 +5,20 @@ use faulty_links::Faulty;
 use hexadecimal::hex_bytes;
 use limits::MOST_BASES;
 use limits::refusal::FORM;
+use line_places::places_of;
 use lines::event::Line;
 use net::StoredNet;
 use node::Node;
 ghost use mathlib.Core.Path.{_≡_};
-ghost use Prim.Native.Nat.{_≤_, _<_, _*_};
+ghost use Prim.Native.Nat.{_≤_, _*_};
 ghost use lib.ListN.{length, drop};
-ghost use Rattle.limits.specs.Limits.{mostBases, longestForgery};
+ghost use Rattle.limits.specs.Limits.{longestForgery};
 ghost use Rattle.hexadecimal.specs.Hex.{hexBytes};
 ghost use Rattle.faulty_links.specs.Faulty.{pairsOf};
 ghost use Rattle.events.specs.Events.{forgedTo};
 ghost use Rattle.schedule.specs.Walk.{repeat};
-ghost use Rattle.stored_walk.specs.State.{HasBytes, nextOf, lineAfter, goesOn};
-ghost use Rattle.stored_walk.specs.Reaching.{senderOf, receiverOf, nodePlace, reachedBy};
+ghost use Rattle.stored_walk.specs.State.{HasBytes, lineAfter, goesOn};
+ghost use Rattle.stored_walk.specs.Reaching.{reachedBy};
 
 // A line's number has a next one: 2 to the 64th less 2 (`mostLines`, `stored_walk/specs/State`).
 const MOST_LINES: usize = 2 * ((1 << 63) - 1);
@@ -66,67 +67,6 @@ fn happen(s: &[u8], sender: Node, receiver: Node, faulty: Faulty, line: Line) ->
         Line::Wrong => Reached {
             refusal: FORM,
             node: receiver,
-        },
-    }
-}
-
-// Where base b stands in the net.
-fn place_of(b: u8) -> usize
-    ensures { λ r. ⌜ (r ≡ nodePlace b) × (r < mostBases) ⌝ }
-{
-    let number = b as usize;
-    if number < 1 {
-        return 0;
-    }
-    if MOST_BASES < number {
-        return 0;
-    }
-    number - 1
-}
-
-// Where the base stands that sends, where the one that is reached, and where the line behind begins.
-struct Places {
-    from: usize,
-    to: usize,
-    next: usize,
-}
-
-fn places_of(line: Line) -> Places
-    ensures { λ r. ⌜ (r .from ≡ nodePlace (senderOf line)) × (r .from < mostBases) ⌝ }
-    ensures { λ r. ⌜ (r .to ≡ nodePlace (receiverOf line)) × (r .to < mostBases) ⌝ }
-    ensures { λ r. ⌜ r .next ≡ nextOf line ⌝ }
-{
-    match line {
-        Line::Start { base, next } => Places {
-            from: place_of(base),
-            to: place_of(base),
-            next,
-        },
-        Line::Carry {
-            from,
-            to,
-            number: _,
-            next,
-        } => Places {
-            from: place_of(from),
-            to: place_of(to),
-            next,
-        },
-        Line::Forge {
-            from,
-            to,
-            at: _,
-            count: _,
-            next,
-        } => Places {
-            from: place_of(from),
-            to: place_of(to),
-            next,
-        },
-        Line::Wrong => Places {
-            from: place_of(0),
-            to: place_of(0),
-            next: 0,
         },
     }
 }

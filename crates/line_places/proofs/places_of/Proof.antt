@@ -1,10 +1,10 @@
--- `event_lines::places_of` meets its contract: the line decides.
+-- `line_places::places_of` meets its contract: the line decides.
 use mathlib.Core.Path.{refl}
 use borrow.Author.Needs.{needs}
 use Rattle.stored_walk.specs.State.{nextOf}
 use Rattle.stored_walk.specs.Reaching.{senderOf, receiverOf}
-use Rattle.event_lines.proofs.places_of.Statement.{statement}
-use Rattle.event_lines.proofs.places_of.Tie as tie
+use Rattle.line_places.proofs.places_of.Statement.{statement}
+use Rattle.line_places.proofs.places_of.Tie as tie
 
 enum-known-line : tie.Need-enum-known-line
 enum-known-line c = search needs

@@ -1,11 +1,11 @@
--- `event_lines::place_of` meets its contract: by the range of the number.
+-- `line_places::place_of` meets its contract: by the range of the number.
 use Rattle.stored_walk.specs.Reaching.{nodePlace}
 use Rattle.node.specs.Node.Within.{is-within, below-one, above-most}
 use Rattle.lists.specs.Choice.Laws.{chosen-yes, chosen-no}
 use mathlib.Core.Path.{refl}
 use native.Mathlib.Omega.{arith}
-use Rattle.event_lines.proofs.place_of.Statement.{statement}
-use Rattle.event_lines.proofs.place_of.Tie as tie
+use Rattle.line_places.proofs.place_of.Statement.{statement}
+use Rattle.line_places.proofs.place_of.Tie as tie
 
 returns : tie.Need-returns
 unfolding nodePlace
