@@ -95,7 +95,7 @@ enum roster_refusal {
     ROSTER_REFUSAL_BACK_DISTANCE = 10,   /* the back distance is not 4 x count + 4, or exceeds the burst */
     ROSTER_REFUSAL_ZERO_IDENTIFIER = 11, /* an identifier in the body is zero */
     ROSTER_REFUSAL_NOT_ASCENDING = 12,   /* a list is not strictly ascending */
-    ROSTER_REFUSAL_FORM = 13,            /* a schedule exceeds 65,536 bytes, or a line is missing or breaks the form */
+    ROSTER_REFUSAL_FORM = 13,            /* a line is missing or breaks the form, or the schedule exceeds 65,536 bytes */
     ROSTER_REFUSAL_SAME_IDENTIFIER = 14, /* two bases have one identifier */
     ROSTER_REFUSAL_FAULTY_LINKS = 15,    /* more than t links are named faulty */
     ROSTER_REFUSAL_NOT_BROADCAST = 16,   /* a carry names a message not yet broadcast */

@@ -5,7 +5,7 @@ pub fn meaning(number: usize) -> Option<&'static str> {
         1 => "n is not 2 to 16",
         2 => "t is above its limit",
         3 => "the own identifier is zero",
-        13 => "a schedule exceeds 65,536 bytes, or a line is missing or breaks the form",
+        13 => "a line is missing or breaks the form, or the schedule exceeds 65,536 bytes",
         14 => "two bases have one identifier",
         15 => "more than t links are named faulty",
         16 => "a carry names a message not yet broadcast",

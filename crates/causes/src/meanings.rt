@@ -16,7 +16,7 @@ the count is not 1 for kinds 1 and 2, or not n for 3 and 4
 the back distance is not 4 x count + 4, or exceeds the burst
 an identifier in the body is zero
 a list is not strictly ascending
-a schedule exceeds 65,536 bytes, or a line is missing or breaks the form
+a line is missing or breaks the form, or the schedule exceeds 65,536 bytes
 two bases have one identifier
 more than t links are named faulty
 a carry names a message not yet broadcast

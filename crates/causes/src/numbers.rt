@@ -7,19 +7,8 @@ use crate::cause::of_field;
 use crate::cause::said;
 use crate::line::value;
 use crate::sentences;
+use limits::most_faulty;
 use limits::refusal;
-ghost use mathlib.Core.Path.{_≡_};
-ghost use Rattle.limits.specs.Limits.{mostFaulty};
-
-// The limit of t in a net of n bases.
-fn most_faulty(n: usize) -> usize
-    ensures { λ r. ⌜ r ≡ mostFaulty n ⌝ }
-{
-    if n < 2 {
-        return 0;
-    }
-    (n - 2) / 2
-}
 
 // The row of no link, of one or of more.
 fn too_many(t: usize) -> Cause {

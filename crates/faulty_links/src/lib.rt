@@ -1,5 +1,5 @@
 // The links that are named faulty.
-use limits::MOST_BASES;
+use limits::MOST_FAULTY;
 use limits::refusal::FAULTY_LINKS;
 ghost use mathlib.Core.Path.{_≡_};
 ghost use lib.ListN.{length};
@@ -9,9 +9,6 @@ ghost use Rattle.lists.specs.Choice.{and};
 ghost use Rattle.protocol.specs.Net.{joins, good};
 ghost use Rattle.faulty_links.specs.Faulty.{pairOf, pairsOf, faultyRoom, noFaulty, markedFaulty};
 ghost use Rattle.schedule.specs.Header.{faultyRefusal};
-
-// Links that may be faulty in the largest net.
-pub const MOST_FAULTY: usize = (MOST_BASES - 2) / 2;
 
 // A link by its two bases.
 pub struct FaultyLink {

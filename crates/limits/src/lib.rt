@@ -3,12 +3,15 @@
 pub mod refusal;
 
 ghost use mathlib.Core.Path.{_≡_};
-ghost use Rattle.limits.specs.Limits.{frameBytes};
+ghost use Rattle.limits.specs.Limits.{frameBytes, mostFaulty};
 ghost use Rattle.limits.specs.Refusals.{netRefusal, sizeRefusal, ownRefusal};
 
 pub const FEWEST_BASES: usize = 2;
 
 pub const MOST_BASES: usize = 16;
+
+// Links that may be faulty in the largest net: `most_faulty` of it.
+pub const MOST_FAULTY: usize = (MOST_BASES - FEWEST_BASES) / 2;
 
 // Links of one base, and the room of a link's list.
 pub const MOST_LINKS: usize = MOST_BASES - 1;
@@ -54,6 +57,16 @@ pub fn net_refusal(n: usize) -> u8
     0
 }
 
+// The limit of t in a net of n bases.
+pub fn most_faulty(n: usize) -> usize
+    ensures { λ r. ⌜ r ≡ mostFaulty n ⌝ }
+{
+    if n < FEWEST_BASES {
+        return 0;
+    }
+    (n - FEWEST_BASES) / 2
+}
+
 // Numbers 1 and 2, 0 for none.
 pub fn size_refusal(n: usize, t: usize) -> u8
     ensures { λ r. ⌜ r ≡ sizeRefusal n t ⌝ }
@@ -62,7 +75,7 @@ pub fn size_refusal(n: usize, t: usize) -> u8
     if net != 0 {
         return net;
     }
-    if (n - 2) / 2 < t {
+    if most_faulty(n) < t {
         return refusal::FAULTY_LIMIT;
     }
     0

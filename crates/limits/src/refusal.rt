@@ -36,7 +36,7 @@ pub const ZERO_IDENTIFIER: u8 = 11;
 // A list is not strictly ascending.
 pub const NOT_ASCENDING: u8 = 12;
 
-// A schedule exceeds 65,536 bytes, or a line is missing or breaks the form.
+// A line is missing or breaks the form, or the schedule exceeds 65,536 bytes.
 pub const FORM: u8 = 13;
 
 // Two bases have one identifier.

@@ -4,8 +4,8 @@ use native.Mathlib.Omega.{arith}
 use borrow.Author.Tests.{lt-ltb, le-ltb}
 use borrow.Author.Needs.{needs}
 use Rattle.lists.specs.Choice.Laws.{chosen-yes, chosen-no, first-none, first-given}
+use Rattle.limits.specs.Limits.{mostFaulty}
 use Rattle.limits.specs.Refusals.{sizeRefusal}
-use Rattle.limits.specs.Refusals.Laws.{net-passed}
 use Rattle.limits.proofs.size_refusal.Statement.{statement}
 use Rattle.limits.proofs.size_refusal.Tie as tie
 
@@ -16,20 +16,22 @@ returns : tie.Need-returns
 unfolding sizeRefusal
 returns c = let e = c .before .net-refusal .ensures in e ∙ sym (first-given _ (λ z. c .if1 .taken (e ∙ z)))
 
-sub-if2 : tie.Need-sub-if2
-sub-if2 c = omega (arith, net-passed (c .before .before .args .n) (sym (c .before .net-refusal .ensures) ∙ c .if1 .left) .least)
+most-faulty-requires : tie.Need-most-faulty-requires
+most-faulty-requires c κs = search needs
 
 returns-2 : tie.Need-returns-2
 unfolding sizeRefusal
 returns-2 c =
-    chosen-yes _ (lt-ltb _ _ (c .if2 .taken)) refl
-    ∙ sym (first-none _ (sym (c .before .before .net-refusal .ensures) ∙ c .before .if1 .left))
+    let a = c .before .before .before .before .args in
+    chosen-yes _ (lt-ltb (mostFaulty (a .n)) (a .t) (omega (arith, c .if2 .taken, c .before .most-faulty .ensures))) refl
+    ∙ sym (first-none _ (sym (c .before .before .before .net-refusal .ensures) ∙ c .before .before .if1 .left))
 
 returns-3 : tie.Need-returns-3
 unfolding sizeRefusal
 returns-3 c =
-    chosen-no _ (le-ltb _ _ (c .if2 .left)) refl
-    ∙ sym (first-none _ (sym (c .before .before .net-refusal .ensures) ∙ c .before .if1 .left))
+    let a = c .before .before .before .before .args in
+    chosen-no _ (le-ltb (mostFaulty (a .n)) (a .t) (omega (arith, c .if2 .left, c .before .most-faulty .ensures))) refl
+    ∙ sym (first-none _ (sym (c .before .before .before .net-refusal .ensures) ∙ c .before .before .if1 .left))
 
 pub size-refusal-spec : {M : Type 1} → statement M
-size-refusal-spec = tie.close (tie.spec net-refusal-requires returns sub-if2 returns-2 returns-3)
+size-refusal-spec = tie.close (tie.spec net-refusal-requires returns most-faulty-requires returns-2 returns-3)
