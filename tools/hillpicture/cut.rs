@@ -54,18 +54,20 @@ impl Cut {
     fn nothing_there(&self, trace: &Trace) -> String {
         let (first, last) = self.lines.unwrap_or((0, usize::MAX));
         let lines: Vec<usize> = trace.events.iter().map(|event| event.line).collect();
+        let refused = match trace.end {
+            End::Refused { number, line, .. } => format!("; refused {number} line {line}"),
+            End::Report { .. } => String::new(),
+        };
         match (lines.iter().any(|line| (first..=last).contains(line)), &lines[..]) {
-            (false, [from, .., to]) => format!("nothing happens there: events stand in lines {from} to {to}"),
-            (false, _) => "nothing happens there".to_string(),
-            (true, _) => "what happens there is left out by the other options".to_string(),
+            (false, [from, .., to]) => format!("nothing happens there: events stand in lines {from} to {to}{refused}"),
+            (false, _) => format!("nothing happens there{refused}"),
+            (true, _) => format!("what happens there is left out by the other options{refused}"),
         }
     }
 
     fn has_refused_line(&self, trace: &Trace) -> bool {
-        match (&trace.end, self.lines) {
-            (End::Refused { line, .. }, Some((first, last))) => (first..=last).contains(line),
-            _ => false,
-        }
+        let (first, last) = self.lines.unwrap_or((0, usize::MAX));
+        matches!(trace.end, End::Refused { line, .. } if (first..=last).contains(&line))
     }
 
     fn shows(&self, trace: &Trace, bases: &[usize], i: usize) -> bool {

@@ -1,14 +1,14 @@
-//! The end of the picture: each base's state under its line, then the lists in full with who holds them, or the line that was refused.
+//! The end of the picture: each base's state under its line, then the lists in full with who holds them, and the line that was refused.
 
 use crate::chart::Chart;
 use crate::cut::{bases_in_words, Shown};
-use crate::layout::{broken_to, wrapped_to, FIXED, MARGIN, PLAIN};
+use crate::layout::{wrapped_to, MARGIN, PLAIN};
 use crate::names::{Names, NO_BREAK};
-use crate::refusals::meaning;
+use crate::refusal_box;
 use crate::svg::{Anchor, Svg};
 use crate::trace::{End, State, Stop, Trace};
 
-const LINE: i32 = 18;
+pub const LINE: i32 = 18;
 /// The boxes, and the sentences under them, on a page of their own at the worst.
 pub const BOXES: i32 = 64;
 
@@ -45,106 +45,49 @@ impl Chart<'_> {
 /// Of those that something waits between; more are left to the trace.
 const MOST_PAIRS: usize = 12;
 
-/// A line of text at the end of the picture.
-enum Line {
-    Plain(String),
-    /// Of the schedule, as it stands.
-    Verbatim(String),
-}
+/// Between the sentences on the states and the box of a refused schedule.
+const OVER_BOX: i32 = 10;
 
 /// Answers how far down it reaches.
 pub fn draw(svg: &mut Svg, trace: &Trace, shown: &Shown, names: &Names, width: i32, top: i32) -> i32 {
     let lines = lines(trace, shown, names, width);
     let mut y = top;
-    if is_refused(trace, shown) {
-        svg.rect("refusal", MARGIN, y - 14, width - 2 * MARGIN, (lines.len() as i32 + 1) * LINE);
-        for (i, line) in lines.iter().enumerate() {
-            match line {
-                Line::Plain(text) => svg.text(if i == 0 { "refusal" } else { "" }, Anchor::Start, MARGIN + 12, y + 6, text),
-                Line::Verbatim(text) => svg.verbatim(MARGIN + 12, y + 6, text),
-            }
-            y += LINE;
-        }
-        return y + 6;
-    }
     for line in &lines {
-        let (Line::Plain(text) | Line::Verbatim(text)) = line;
-        svg.text("", Anchor::Start, MARGIN, y, text);
+        svg.text("", Anchor::Start, MARGIN, y, line);
         y += LINE;
     }
-    y - LINE + 4
+    match trace.end {
+        End::Refused { .. } if lines.is_empty() => refusal_box::draw(svg, trace, shown, width, y),
+        End::Refused { .. } => refusal_box::draw(svg, trace, shown, width, y + OVER_BOX),
+        End::Report { .. } => y - LINE + 4,
+    }
 }
 
 /// How much room `draw` takes below its top.
 pub fn height(trace: &Trace, shown: &Shown, names: &Names, width: i32) -> i32 {
-    (lines(trace, shown, names, width).len() as i32 + 1) * LINE
+    draw(&mut Svg::default(), trace, shown, names, width, 0) + LINE
 }
 
 /// The same for a screen reader.
 pub fn description(trace: &Trace, shown: &Shown, names: &Names) -> String {
     let ended = |sentence: String| if sentence.ends_with(['.', ':']) { sentence } else { format!("{sentence}.") };
-    sentences(trace, shown, names).into_iter().map(ended).collect::<Vec<_>>().join(" ")
+    let sentences = states(trace, shown, names).into_iter().chain(refusal_box::sentences(trace, shown));
+    sentences.map(ended).collect::<Vec<_>>().join(" ")
 }
 
-fn is_refused(trace: &Trace, shown: &Shown) -> bool {
-    shown.whole_end && matches!(trace.end, End::Refused { .. })
-}
-
-fn lines(trace: &Trace, shown: &Shown, names: &Names, width: i32) -> Vec<Line> {
+fn lines(trace: &Trace, shown: &Shown, names: &Names, width: i32) -> Vec<String> {
     let room = width - 2 * MARGIN - 24;
-    let schedule_line = is_refused(trace, shown).then(|| told_line(trace)).flatten();
-    let of = |sentence: &String| -> Vec<Line> {
-        match Some(sentence) == schedule_line {
-            true => broken_to(sentence, FIXED, room).into_iter().map(Line::Verbatim).collect(),
-            false => wrapped_to(sentence, PLAIN, room).into_iter().map(Line::Plain).collect(),
-        }
-    };
-    sentences(trace, shown, names).iter().flat_map(of).collect()
+    states(trace, shown, names).iter().flat_map(|sentence| wrapped_to(sentence, PLAIN, room)).collect()
 }
 
-/// The refused line, which the trace tells first.
-fn told_line(trace: &Trace) -> Option<&String> {
-    match &trace.end {
-        End::Refused { told, .. } => told.first(),
-        End::Report { .. } => None,
-    }
-}
-
-fn sentences(trace: &Trace, shown: &Shown, names: &Names) -> Vec<String> {
-    match &trace.end {
-        End::Refused { number, line, told } if shown.whole_end => {
-            let mut lines = refusal(*number, *line, told);
-            lines.extend(what_is_shown(trace, shown));
-            lines
-        }
-        _ => states(trace, shown, names),
-    }
-}
-
-/// The number, then the line with what the trace tells of it, or else what the number means.
-fn refusal(number: usize, line: usize, told: &[String]) -> Vec<String> {
-    let mut lines = vec![format!("refused {number} line {line}")];
-    match told.is_empty() {
-        true => lines.push(format!("Line {line} of the schedule: {}.", meaning(number).unwrap_or("see docs/RULES.md"))),
-        false => lines.extend(told.iter().map(|line| line.trim_start().to_string())),
-    }
-    lines
-}
-
-fn what_is_shown(trace: &Trace, shown: &Shown) -> Option<String> {
-    match (trace.events.is_empty(), shown.events.is_empty()) {
-        (true, _) => Some("Nothing happened before it.".to_string()),
-        (false, false) => Some("The picture shows what the lines before it did.".to_string()),
-        (false, true) => None,
-    }
-}
-
-/// "Stopped with L = 300 400 500, leader 500: bases 1, 2 and 3."
+/// "Stopped with L = 300 400 500, leader 500: bases 1, 2 and 3." Nothing before a refused line, where the boxes under the bases say it.
 fn states(trace: &Trace, shown: &Shown, names: &Names) -> Vec<String> {
-    let mut out = Vec::new();
-    if !shown.whole_end {
-        out.push("The schedule goes on. At the end of this part:".to_string());
-    }
+    let mut out = match (&trace.end, shown.whole_end) {
+        (End::Refused { .. }, true) => return Vec::new(),
+        (End::Refused { line, .. }, false) => vec![format!("The schedule goes on, up to line {line}. At the end of this part:")],
+        (End::Report { .. }, true) => Vec::new(),
+        (End::Report { .. }, false) => vec!["The schedule goes on. At the end of this part:".to_string()],
+    };
     for (list, _) in names.lists() {
         let holders = which(shown, |state| matches!(state, State::Stopped(stop) if stop.list == list));
         let leader = shown.states.iter().find_map(|state| match state {

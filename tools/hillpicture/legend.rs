@@ -37,6 +37,16 @@ fn faulty(trace: &Trace) -> String {
     }
 }
 
+/// Nothing where no event stands before the refused line.
+fn up_to_refused(trace: &Trace) -> String {
+    match trace.end {
+        End::Refused { line, .. } if !trace.events.is_empty() => {
+            format!("Line {line} is refused, and the box at the end says why: events up to it are shown. ")
+        }
+        _ => String::new(),
+    }
+}
+
 /// The title and a quiet line under it; answers how far down they reach.
 pub fn draw_title(svg: &mut Svg, trace: &Trace, under: &str) -> i32 {
     svg.text("title", Anchor::Start, MARGIN, 30, &title(trace));
@@ -50,7 +60,7 @@ pub fn draw(svg: &mut Svg, trace: &Trace, shown: &Shown, names: &Names) -> i32 {
         svg.text("title", Anchor::Start, MARGIN, 30, &title(trace));
         return 30;
     }
-    let part = shown.told.as_ref().map_or(String::new(), |told| format!("Only {told}. "));
+    let part = shown.told.as_ref().map_or(String::new(), |told| format!("Only {told}. ")) + &up_to_refused(trace);
     let arrows = "Time runs down. An arrow is a message arriving, its short name next to the base that hears it;";
     let figures = "the figures are that base's checks after it.";
     svg.text("title", Anchor::Start, MARGIN, 30, &title(trace));

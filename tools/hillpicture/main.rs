@@ -3,7 +3,8 @@
 //!
 //! Read: `options` is the command line, `trace` is what a trace says, `read` takes it from text, `cut` has the part that is drawn. Named
 //! and placed: `names` has the short names, `layout` the columns and rows, `sheet` their places on sheets. Drawn: `chart` and `pages` put
-//! together `legend`, `heads`, `events` and `ending`; `arrows` has the arrows and marks, `refusals` the numbers' meaning, `svg` the shapes.
+//! together `legend`, `heads`, `events`, `ending` and `refusal_box`; `arrows` has the arrows and marks, `refusals` the numbers' meaning,
+//! `svg` the shapes.
 
 mod arrows;
 mod chart;
@@ -17,6 +18,7 @@ mod names;
 mod options;
 mod pages;
 mod read;
+mod refusal_box;
 mod refusals;
 mod sheet;
 mod svg;
