@@ -22,7 +22,7 @@ pub enum Tip {
 impl Tip {
     pub fn of(outcome: &Outcome) -> Tip {
         match outcome {
-            Outcome::Accepted(_) => Tip::Accepted,
+            Outcome::Accepted { .. } => Tip::Accepted,
             Outcome::Discarded(_) => Tip::Discarded,
             Outcome::Refused(_) => Tip::Refused,
         }

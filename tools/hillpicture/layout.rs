@@ -159,24 +159,18 @@ fn note(event: &Event, part: Part, names: &Names) -> Vec<String> {
             vec![format!("base {at} stops: {state}"), format!("list {}, leader {}, sends {by_stop}", names.list(&stop.list), stop.leader)]
         }
         (_, Some(hearing), _) => match &hearing.outcome {
-            Outcome::Accepted(besides) => {
+            Outcome::Accepted { besides, replaced } => {
                 let sends = (!by_arrival.is_empty()).then(|| format!("base {at} sends {by_arrival}"));
-                let besides = (!besides.is_empty()).then(|| shortened(besides, names));
+                let besides = match replaced {
+                    Some(vote) => Some(format!("{besides} {}", names.message(vote))),
+                    None => (!besides.is_empty()).then(|| besides.clone()),
+                };
                 besides.into_iter().chain(sends).collect()
             }
             Outcome::Discarded(why) => vec![format!("discarded: {why}")],
             Outcome::Refused(why) => vec![format!("refused by {why}")],
         },
         _ => Vec::new(),
-    }
-}
-
-/// "in place of the link's F X1", where the trace has the Verify-Final's whole list.
-fn shortened(besides: &str, names: &Names) -> String {
-    let list = |numbers: &str| numbers.split(' ').map(|id| id.parse().ok()).collect::<Option<Vec<u32>>>();
-    match besides.split_once("Verify-Final of ").and_then(|(before, numbers)| Some((before, list(numbers)?))) {
-        Some((before, list)) => format!("{before}F {}", names.list(&list)),
-        None => besides.to_string(),
     }
 }
 

@@ -47,11 +47,15 @@ fn up_to_refused(trace: &Trace) -> String {
     }
 }
 
-/// The title and a quiet line under it; answers how far down they reach.
-pub fn draw_title(svg: &mut Svg, trace: &Trace, under: &str) -> i32 {
+/// The top of a later page: the title, quiet lines under it, and the lists by name. Answers how far down they reach.
+pub fn draw_short(svg: &mut Svg, trace: &Trace, names: &Names, under: &[String]) -> i32 {
     svg.text("title", Anchor::Start, MARGIN, 30, &title(trace));
-    svg.text("quiet", Anchor::Start, MARGIN, 48, under);
-    60
+    let mut y = 48;
+    for line in under {
+        svg.text("quiet", Anchor::Start, MARGIN, y, line);
+        y += 15;
+    }
+    draw_lists(svg, names, y + 3)
 }
 
 /// Draws the title, the legend and the lists; answers how far down they reach.
@@ -77,7 +81,7 @@ pub fn draw(svg: &mut Svg, trace: &Trace, shown: &Shown, names: &Names) -> i32 {
     starts(svg, MARGIN + BLOCKS[1], top + SECOND_ROW);
     stops(svg, MARGIN + BLOCKS[2], top + SECOND_ROW);
     let bottom = explained(svg, top + SECOND_ROW + 5 * LINE - 8);
-    lists(svg, names, bottom + 8)
+    draw_lists(svg, names, bottom + 8)
 }
 
 /// The words of the schedule's lines and of the checks that no sign stands for.
@@ -110,9 +114,10 @@ fn block(svg: &mut Svg, x: i32, top: i32, heading: &str, indent: i32, lines: &[&
 
 fn messages(svg: &mut Svg, trace: &Trace, names: &Names, x: i32, top: i32) {
     let id = trace.ids.first().copied().unwrap_or(500);
-    let list = names.lists().first().map_or("L".to_string(), |(list, _)| names.list(list));
+    // Without a list that is drawn, L stands for any.
+    let (of, list) = names.lists().first().map_or(("a list", "L".to_string()), |(list, _)| ("list", names.list(list)));
     let short = [format!("A {id}"), format!("V {id}"), format!("C {list}"), format!("F {list}")];
-    let of_list = |kind: &str| format!("{kind} of list {list}");
+    let of_list = |kind: &str| format!("{kind} of {of} {list}");
     let indent = short.iter().map(|name| width_of(name, FIXED)).max().unwrap_or(0) + 8;
     block(svg, x, top, "Messages", indent, &["Announce", "Verify", &of_list("Correct-Final"), &of_list("Verify-Final")]);
     for (i, name) in short.iter().enumerate() {
@@ -162,7 +167,8 @@ fn stops(svg: &mut Svg, x: i32, top: i32) {
     stop_mark(svg, x + 10, top + 2 * LINE - 4, false);
 }
 
-fn lists(svg: &mut Svg, names: &Names, mut y: i32) -> i32 {
+/// The lists that have short names, each in full.
+fn draw_lists(svg: &mut Svg, names: &Names, mut y: i32) -> i32 {
     for (list, is_true) in names.lists() {
         let name = names.list(list);
         let what = if is_true { "the true identifiers" } else { "not the true identifiers" };

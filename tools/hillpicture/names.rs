@@ -2,11 +2,12 @@
 //! first appearance in the whole trace, whatever part of it is drawn.
 
 use crate::cut::Shown;
-use crate::trace::{Broadcast, Event, Message, State, Trace};
+use crate::trace::{Broadcast, Event, Message, Outcome, State, Stop, Trace};
 use std::collections::BTreeSet;
 
 pub const NO_BREAK: &str = "\u{a0}";
 
+#[derive(Clone)]
 pub struct Names {
     true_list: Option<Vec<u32>>,
     /// Lists that are not the true one.
@@ -18,18 +19,21 @@ pub struct Names {
 }
 
 impl Names {
+    /// The names of what is drawn.
     pub fn of(trace: &Trace, shown: &Shown) -> Names {
         let ids = trace.ids.iter().copied().collect();
         let true_list = trace.true_list();
         let mut names = Names { true_list, false_lists: Vec::new(), drawn: Vec::new(), strangers_drawn: false, ids };
         trace.events.iter().flat_map(messages).for_each(|message| names.meet(message));
-        shown.events.iter().flat_map(|&i| messages(&trace.events[i])).for_each(|message| names.draw(message));
-        for b in &shown.bases {
-            if let State::Stopped(stop) = &shown.states[b - 1] {
-                names.meet_list(&stop.list);
-                names.draw_list(&stop.list);
-            }
-        }
+        stops(shown).for_each(|stop| names.meet_list(&stop.list));
+        names.of_part(trace, &shown.events, Some(shown))
+    }
+
+    /// The same names, of these events alone, and of the states at the end where it is drawn.
+    pub fn of_part(&self, trace: &Trace, events: &[usize], end: Option<&Shown>) -> Names {
+        let mut names = Names { drawn: Vec::new(), strangers_drawn: false, ..self.clone() };
+        events.iter().flat_map(|&i| messages(&trace.events[i])).for_each(|message| names.draw(message));
+        end.into_iter().flat_map(stops).for_each(|stop| names.draw_list(&stop.list));
         names
     }
 
@@ -110,7 +114,20 @@ impl Names {
     }
 }
 
+/// What is heard, what it takes the place of, and what is broadcast.
 fn messages(event: &Event) -> impl Iterator<Item = &Message> {
     let heard = event.hearing.iter().map(|hearing| &hearing.message);
-    heard.chain(event.broadcasts.iter().map(|broadcast| &broadcast.message))
+    let replaced = event.hearing.iter().filter_map(|hearing| match &hearing.outcome {
+        Outcome::Accepted { replaced, .. } => replaced.as_ref(),
+        _ => None,
+    });
+    heard.chain(replaced).chain(event.broadcasts.iter().map(|broadcast| &broadcast.message))
+}
+
+/// Of the bases that are drawn.
+fn stops(shown: &Shown) -> impl Iterator<Item = &Stop> {
+    shown.bases.iter().filter_map(|b| match &shown.states[b - 1] {
+        State::Stopped(stop) => Some(stop),
+        _ => None,
+    })
 }

@@ -6,7 +6,7 @@ use crate::ending;
 use crate::layout::MARGIN;
 use crate::legend;
 use crate::names::Names;
-use crate::sheet::{self, Sheet};
+use crate::sheet::{self, Page, Sheet};
 use crate::svg::{escaped, Anchor, Svg, STYLE};
 use crate::trace::Trace;
 
@@ -16,8 +16,7 @@ const SHORT: i32 = 194;
 const SPARE: i32 = 2;
 /// A wider picture lies on its side.
 const WIDEST_UPRIGHT: i32 = 1000;
-/// Above the heads of every page but the first, and below the last row.
-const TOP: i32 = 66;
+/// Below the last row.
 const FOOT: i32 = 26;
 
 struct Paper {
@@ -45,9 +44,9 @@ pub fn pages(trace: &Trace, shown: &Shown) -> String {
         return html(&title, &paper, &[svg.inline(paper.width, paper.height, &title)]);
     };
     let paper = Paper::of(legend::WIDTH.max(chart.columns.width));
-    let first_top = legend::draw(&mut Svg::default(), trace, shown, &names);
     let end = 10 + ending::BOXES + 26 + ending::height(trace, shown, &names, paper.width);
-    let sheets = sheet::pages(&chart.rows, (first_top, TOP), paper.height - FOOT, end);
+    let above = |page: &Page| draw_above(&mut Svg::default(), &chart, page);
+    let sheets = sheet::pages(&chart.rows, above, paper.height - FOOT, end);
     let drawn: Vec<String> = (0..sheets.len()).map(|i| page(&chart, &sheets, i, &paper)).collect();
     html(&title, &paper, &drawn)
 }
@@ -55,11 +54,9 @@ pub fn pages(trace: &Trace, shown: &Shown) -> String {
 fn page(chart: &Chart, sheets: &[Sheet], i: usize, paper: &Paper) -> String {
     let (trace, shown, names) = (chart.trace, chart.shown, chart.names);
     let mut svg = Svg::default();
-    match i {
-        0 => drop(legend::draw(&mut svg, trace, shown, names)),
-        _ => drop(legend::draw_title(&mut svg, trace, &lines_on(chart, &sheets[i]))),
-    }
     let last = i + 1 == sheets.len();
+    let places: Vec<usize> = sheets[i].rows.iter().map(|&(place, _)| place).collect();
+    draw_above(&mut svg, chart, &Page { number: i, places: &places, end: last });
     let bottom = chart.draw(&mut svg, &sheets[i], last);
     if last {
         ending::draw(&mut svg, trace, shown, names, paper.width, bottom + 26);
@@ -69,16 +66,24 @@ fn page(chart: &Chart, sheets: &[Sheet], i: usize, paper: &Paper) -> String {
     svg.inline(paper.width, paper.height, &format!("{}, {number}", legend::title(trace)))
 }
 
-/// "Lines 40 to 90, what is heard at base 3."
-fn lines_on(chart: &Chart, sheet: &Sheet) -> String {
-    let line = |row: Option<&(usize, i32)>| row.map(|&(place, _)| chart.trace.events[chart.rows[place].event].line);
-    match (line(sheet.rows.first()), line(sheet.rows.last())) {
-        (Some(first), Some(last)) => match &chart.shown.told_on_a_page {
-            Some(told) => format!("Lines {first} to {last}, {told}."),
-            None => format!("Lines {first} to {last}."),
-        },
-        _ => "The end.".to_string(),
+/// The whole legend on the first page, less on the others, and on each the lists that have short names there.
+fn draw_above(svg: &mut Svg, chart: &Chart, page: &Page) -> i32 {
+    let trace = chart.trace;
+    let events: Vec<usize> = page.places.iter().map(|&place| chart.rows[place].event).collect();
+    let names = chart.names.of_part(trace, &events, page.end.then_some(chart.shown));
+    match page.number {
+        0 => legend::draw(svg, trace, chart.shown, &names),
+        _ => legend::draw_short(svg, trace, &names, &under_title(chart, &events)),
     }
+}
+
+/// "Lines 40 to 90, what is heard at base 3.", and the messages' letters.
+fn under_title(chart: &Chart, events: &[usize]) -> Vec<String> {
+    let (Some(&first), Some(&last)) = (events.first(), events.last()) else { return vec!["The end.".to_string()] };
+    let line = |event: usize| chart.trace.events[event].line;
+    let told = chart.shown.told_on_a_page.as_ref().map_or(String::new(), |told| format!(", {told}"));
+    let letters = "A: Announce. V: Verify. C: Correct-Final. F: Verify-Final.";
+    vec![format!("Lines {} to {}{told}.", line(first), line(last)), letters.to_string()]
 }
 
 fn html(title: &str, paper: &Paper, pages: &[String]) -> String {

@@ -221,7 +221,7 @@ fn hearing_of(heard: &str, from: usize, n: usize) -> Option<Hearing> {
     let message = message_of(&words, n)?;
     let burst = matches!(message, Message::Bytes(_));
     let outcome = match outcome.split_once(", ").unwrap_or((outcome, "")) {
-        ("accepted", besides) if !burst => Outcome::Accepted(besides.to_string()),
+        ("accepted", besides) if !burst => accepted(besides, n),
         ("discarded", why) if !burst => Outcome::Discarded(why.to_string()),
         (refused, why) if burst => {
             let number: usize = refused.strip_prefix("refused by ")?.parse().ok()?;
@@ -231,6 +231,15 @@ fn hearing_of(heard: &str, from: usize, n: usize) -> Option<Hearing> {
     };
     let placed = sender.parse() == Ok(from) && link.parse::<usize>().is_ok();
     placed.then_some(Hearing { message, outcome })
+}
+
+/// `in place of the link's Verify-Final of 300 500`: the vote apart, as its list has a short name.
+fn accepted(besides: &str, n: usize) -> Outcome {
+    let vote = |list: &str| list_of(&list.split(' ').collect::<Vec<_>>(), n).map(Message::VerifyFinal);
+    match besides.split_once(" Verify-Final of ").and_then(|(before, list)| Some((before, vote(list)?))) {
+        Some((before, vote)) => Outcome::Accepted { besides: before.to_string(), replaced: Some(vote) },
+        None => Outcome::Accepted { besides: besides.to_string(), replaced: None },
+    }
 }
 
 fn message_of(words: &[&str], n: usize) -> Option<Message> {

@@ -21,6 +21,12 @@ impl Sheet {
         Sheet { rows: Vec::new(), heads: vec![top], bottom: top + HEAD + BELOW_HEAD }
     }
 
+    fn of(rows: &[Row], places: &[usize], top: i32) -> Sheet {
+        let mut sheet = Sheet::begin(top);
+        places.iter().for_each(|&place| sheet.put(place, rows[place].height()));
+        sheet
+    }
+
     fn put(&mut self, place: usize, height: i32) {
         self.rows.push((place, self.bottom));
         self.bottom += height;
@@ -43,23 +49,34 @@ pub fn one(rows: &[Row], top: i32) -> Sheet {
     sheet
 }
 
-/// Pages down to `foot`, the first from `first_top` on and the others from `top` on; behind the last row there is room for the end.
-pub fn pages(rows: &[Row], (first_top, top): (i32, i32), foot: i32, end: i32) -> Vec<Sheet> {
-    let mut sheets = vec![Sheet::begin(first_top)];
-    let mut place = 0;
-    while place < rows.len() {
-        let count = 1 + rows[place + 1..].iter().take_while(|row| !row.first).count();
-        let height: i32 = rows[place..place + count].iter().map(Row::height).sum();
-        let last = sheets.len() - 1;
-        if sheets[last].bottom + height > foot && !sheets[last].rows.is_empty() {
-            sheets.push(Sheet::begin(top));
+/// A page before its rows have their tops.
+pub struct Page<'r> {
+    /// From 0.
+    pub number: usize,
+    /// Its rows' places among all rows.
+    pub places: &'r [usize],
+    /// Whether the picture's end stands on it.
+    pub end: bool,
+}
+
+/// Pages down to `foot`. `above` answers how far down what stands above a page's heads reaches, which is not the same on every page;
+/// behind the last row there is room for the end.
+pub fn pages(rows: &[Row], above: impl Fn(&Page) -> i32, foot: i32, end: i32) -> Vec<Sheet> {
+    let sheet = |number: usize, places: &[usize], end: bool| Sheet::of(rows, places, above(&Page { number, places, end }));
+    let places: Vec<usize> = (0..rows.len()).collect();
+    let mut pages: Vec<Vec<usize>> = vec![Vec::new()];
+    for event in places.chunk_by(|_, &next| !rows[next].first) {
+        let last = pages.len() - 1;
+        let with_event = [&pages[last][..], event].concat();
+        match pages[last].is_empty() || sheet(last, &with_event, false).bottom <= foot {
+            true => pages[last] = with_event,
+            false => pages.push(event.to_vec()),
         }
-        let last = sheets.len() - 1;
-        (place..place + count).for_each(|place| sheets[last].put(place, rows[place].height()));
-        place += count;
     }
-    if sheets.last().is_some_and(|sheet| sheet.bottom + end > foot && !sheet.rows.is_empty()) {
-        sheets.push(Sheet::begin(top));
+    let last = pages.len() - 1;
+    if !pages[last].is_empty() && sheet(last, &pages[last], true).bottom + end > foot {
+        pages.push(Vec::new());
     }
-    sheets
+    let last = pages.len() - 1;
+    pages.iter().enumerate().map(|(i, places)| sheet(i, places, i == last)).collect()
 }

@@ -79,8 +79,11 @@ pub enum Message {
 }
 
 pub enum Outcome {
-    /// What the trace says besides, if anything.
-    Accepted(String),
+    /// What the trace says besides, if anything, and the vote whose place the message takes.
+    Accepted {
+        besides: String,
+        replaced: Option<Message>,
+    },
     Discarded(String),
     Refused(String),
 }
