@@ -3,7 +3,7 @@ use crate::line::row;
 use output::text;
 
 // A row a number, in the words of docs/RULES.md.
-const MEANINGS: [u8; 702] = *b"
+const MEANINGS: [u8; 704] = *b"
 n is not 2 to 16
 t is above its limit
 the own identifier is zero
