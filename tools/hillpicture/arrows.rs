@@ -1,7 +1,7 @@
 //! Arrows and marks. The shaft tells the link (solid, dashed, zigzag), the end tells what became of the message (head, cross, wall):
 //! colour only repeats it.
 
-use crate::layout::{BESIDE_STUB, STUB};
+use crate::layout::{BESIDE_LINE, BESIDE_STUB, STUB};
 use crate::svg::{Anchor, Svg};
 use crate::trace::Outcome;
 
@@ -79,6 +79,15 @@ fn short(tip: Tip) -> i32 {
         Tip::Accepted => 9,
         Tip::Discarded => 10,
         Tip::Refused => 11,
+    }
+}
+
+/// How far from the receiver's line a label has to stay, so that the end of its arrow does not touch it.
+pub fn beside_tip(tip: Tip) -> i32 {
+    match tip {
+        Tip::Accepted => BESIDE_LINE,
+        Tip::Discarded => 16,
+        Tip::Refused => 14,
     }
 }
 

@@ -1,8 +1,8 @@
 //! An event's rows: the base starts, a message arrives, the base stops.
 
-use crate::arrows::{arrow, classes, start_mark, stop_mark, stub, tick, Shaft, Tip};
+use crate::arrows::{arrow, beside_tip, classes, start_mark, stop_mark, stub, tick, Shaft, Tip};
 use crate::chart::Chart;
-use crate::layout::{schedule_words, Part, Row, NOTE_LINE};
+use crate::layout::{schedule_words, Part, Row, BESIDE_LINE, BESIDE_STUB, NOTE_LINE, STUB};
 use crate::svg::{Anchor, Svg};
 use crate::trace::{Cause, Check, Event, Hearing, Outcome, LEAST_CORRECT_FINALS};
 
@@ -43,7 +43,8 @@ impl Chart<'_> {
         }
     }
 
-    /// The arrow, and the message's short name in the gap next to the receiver. A sender that is not drawn is named by its number.
+    /// The arrow, and the message's short name in the middle of what is free of the gap next to the receiver. A sender that is not drawn is
+    /// named by its number.
     fn draw_arrival(&self, svg: &mut Svg, event: &Event, receiver: i32, y: i32) {
         let (Some(from), Some(hearing)) = (event.from(), &event.hearing) else { return };
         let shaft = match event.cause {
@@ -54,11 +55,18 @@ impl Chart<'_> {
         let tip = Tip::of(&hearing.outcome);
         let ahead = if from < event.at { 1 } else { -1 };
         svg.open(&classes(shaft, tip));
-        match self.columns.base(from) {
-            Some(sender) => arrow(svg, shaft, tip, sender, receiver, y),
-            None => stub(svg, shaft, tip, from, receiver - ahead * self.columns.gap, receiver, y),
-        }
-        let middle = receiver - ahead * self.columns.gap / 2;
+        let (gap, near) = (self.columns.gap, beside_tip(tip));
+        let far = match self.columns.base(from) {
+            Some(sender) => {
+                arrow(svg, shaft, tip, sender, receiver, y);
+                BESIDE_LINE
+            }
+            None => {
+                stub(svg, shaft, tip, from, receiver - ahead * gap, receiver, y);
+                BESIDE_STUB + STUB
+            }
+        };
+        let middle = receiver - ahead * (near + gap - far) / 2;
         svg.text("fixed", Anchor::Middle, middle, y - 6, &self.names.message(&hearing.message));
         svg.close();
     }

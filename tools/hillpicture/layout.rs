@@ -23,8 +23,10 @@ const ROW: i32 = 23;
 const NARROWEST_GAP: i32 = 84;
 /// Together the bases take at least this much, so that few bases do not stand too close.
 const BASES: i32 = 360;
-/// Room beside a label for the arrow's end and the base's line.
-const BESIDE_LABEL: i32 = 22;
+/// How far from a base's line a label has to stay.
+pub const BESIDE_LINE: i32 = 8;
+/// Room beside a label for the arrow's two ends.
+const BESIDE_LABEL: i32 = BESIDE_LINE + 16;
 /// Room for the number of a base that is not drawn, and between it and the next base's line.
 pub const STUB: i32 = 22;
 pub const BESIDE_STUB: i32 = 8;

@@ -3,7 +3,7 @@
 use crate::arrows::{arrow, classes, start_mark, stop_mark, tick, Shaft, Tip};
 use crate::cut::Shown;
 use crate::layout::{wrapped_to, FIXED, MARGIN, PLAIN};
-use crate::names::Names;
+use crate::names::{Names, NO_BREAK};
 use crate::svg::{width_of, Anchor, Svg};
 use crate::trace::{End, Trace};
 
@@ -171,8 +171,8 @@ fn stops(svg: &mut Svg, x: i32, top: i32) {
 fn draw_lists(svg: &mut Svg, names: &Names, mut y: i32) -> i32 {
     for (list, is_true) in names.lists() {
         let name = names.list(list);
-        let what = if is_true { "the true identifiers" } else { "not the true identifiers" };
-        for line in wrapped_to(&format!("{name} = {} ({what})", names.spaced(list)), FIXED, WIDTH) {
+        let what = if is_true { "(the true identifiers)" } else { "(not the true identifiers)" };
+        for line in wrapped_to(&format!("{name} = {} {}", names.spaced(list), what.replace(' ', NO_BREAK)), FIXED, WIDTH) {
             svg.text("fixed", Anchor::Start, MARGIN, y, &line);
             y += LINE - 2;
         }
