@@ -6,8 +6,8 @@ use held::has_announce;
 use held::holds_verify;
 use limits::MOST_BASES;
 use output::number;
-use output::parts::plus;
 use output::text;
+use parts::plus;
 use protocol::Base;
 use protocol::Link;
 

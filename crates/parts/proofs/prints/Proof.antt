@@ -3,9 +3,9 @@ use native.Mathlib.Omega.{arith}
 use borrow.Author.Tests.{le-leb, lt-leb}
 use mathlib.Core.Path.{refl}
 use Rattle.lists.specs.Choice.Laws.{and-fails, and-goes-on}
-use Rattle.output.specs.Parts.{printing}
-use Rattle.output.proofs.prints.Statement.{statement}
-use Rattle.output.proofs.prints.Tie as tie
+use Rattle.parts.specs.Parts.{printing}
+use Rattle.parts.proofs.prints.Statement.{statement}
+use Rattle.parts.proofs.prints.Tie as tie
 
 returns : tie.Need-returns
 unfolding printing

@@ -1,6 +1,6 @@
-// Parts of slices and sums of places, for any numbers.
+// Parts of slices and sums of places, for any numbers; which bytes print.
 ghost use mathlib.Core.Path.{_≡_};
-ghost use Rattle.output.specs.Parts.{partOf, lineLength, placeBehind};
+ghost use Rattle.parts.specs.Parts.{partOf, lineLength, placeBehind, printing};
 
 const LAST_PLACE: usize = 18446744073709551615;
 
@@ -36,4 +36,14 @@ pub fn plus(at: usize, by: usize) -> usize
         return LAST_PLACE;
     }
     at + by
+}
+
+// Whether a byte is seen where it is written: a space and the signs of ASCII.
+pub fn prints(b: u8) -> bool
+    ensures { λ r. ⌜ r ≡ printing b ⌝ }
+{
+    if b < b' ' {
+        return false;
+    }
+    b <= b'~'
 }
