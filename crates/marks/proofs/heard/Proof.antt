@@ -1,10 +1,10 @@
 use mathlib.Core.Path.{refl}
 use Rattle.lists.specs.Choice.Laws.{and-fails, and-goes-on}
 use Rattle.node.specs.Node.{heardBy, markPlace}
 use Rattle.node.specs.Node.Within.{is-within, below-one, above-most}
 use borrow.Author.Needs.{needs}
-use Rattle.node.proofs.marks.heard.Statement.{statement}
-use Rattle.node.proofs.marks.heard.Tie as tie
+use Rattle.marks.proofs.heard.Statement.{statement}
+use Rattle.marks.proofs.heard.Tie as tie
 
 returns : tie.Need-returns
 unfolding heardBy

@@ -6,10 +6,10 @@ use native.Mathlib.Omega.{arith}
 use borrow.Author.Needs.{needs}
 use borrow.Author.Tests.{not-true, not-false}
 use Rattle.counting.specs.Sums.{bit, sum}
-use Rattle.node.specs.Node.Counts.{one-more, none-more}
+use Rattle.marks.specs.Counts.{one-more, none-more}
 use Rattle.node.specs.Node.{heardBy}
-use Rattle.node.proofs.marks.unheard.Statement.{statement}
-use Rattle.node.proofs.marks.unheard.Tie as tie
+use Rattle.marks.proofs.unheard.Statement.{statement}
+use Rattle.marks.proofs.unheard.Tie as tie
 
 abbrev Inv-loop : tie.InvT-loop
 Inv-loop node a count total₀ i₀ total i = (i ≤ count) × (total ≤ i) × (total ≡ sum i (λ j. bit (not (heardBy node a (suc j)))))

@@ -1,10 +1,10 @@
 use mathlib.Core.Path.{refl, sym}
 use Rattle.lists.specs.Choice.Laws.{and-fails, and-no, and-both, chosen-yes, chosen-no}
 use Rattle.node.specs.Node.Within.{is-within, below-one, above-most}
 use Rattle.node.specs.Node.{marked, markPlace, mostBroadcasts}
 use borrow.Author.Needs.{needs}
-use Rattle.node.proofs.marks.mark.Statement.{statement}
-use Rattle.node.proofs.marks.mark.Tie as tie
+use Rattle.marks.proofs.mark.Statement.{statement}
+use Rattle.marks.proofs.mark.Tie as tie
 
 returns : tie.Need-returns
 unfolding marked markPlace

@@ -1,12 +1,12 @@
 // Which broadcasts of the others were carried to a base.
-use crate::MOST_BROADCASTS;
-use crate::Node;
 use limits::MOST_BASES;
+use node::MOST_BROADCASTS;
+use node::Node;
 ghost use mathlib.Core.Path.{_≡_};
 ghost use Prim.Native.Nat.{suc};
 ghost use mathlib.Core.Bool.{not};
 ghost use Rattle.counting.specs.Sums.{bit, sum};
 ghost use Rattle.node.specs.Node.{heardBy, marked};
 
 // Whether a's k-th broadcast was carried to this base.
 pub fn heard(node: Node, a: u8, k: usize) -> bool
