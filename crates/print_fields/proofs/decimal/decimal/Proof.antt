@@ -1,4 +1,4 @@
--- `print::decimal::decimal` meets its contract. Invariant: the digits of the rest, and behind them the array from `start` on, are
+-- `print_fields::decimal::decimal` meets its contract. Invariant: the digits of the rest, and behind them the array from `start` on, are
 -- the number's.
 use native.Mathlib.Omega.{arith}
 use borrow.Author.Needs.{needs}
@@ -6,10 +6,10 @@ use Prim.Native.Nat.{ℕ, _≤_}
 use mathlib.Core.Path.{_≡_, refl}
 use mathlib.Core.List.{_++_}
 use lib.ListN.{length, drop, replicate, length-set, length-replicate}
 use Rattle.print.specs.Decimal.{mostDigits, lastDigits, decimalText}
 use Rattle.print.specs.Decimal.Laws.{digits-begin, digits-last, decimal-more, digits-all}
-use Rattle.print.proofs.decimal.decimal.Statement.{statement}
-use Rattle.print.proofs.decimal.decimal.Tie as tie
+use Rattle.print_fields.proofs.decimal.decimal.Statement.{statement}
+use Rattle.print_fields.proofs.decimal.decimal.Tie as tie
 
 abbrev Inv-loop : tie.InvT-loop
 Inv-loop v bytes₀ start₀ rest₀ bytes start rest =
