@@ -1,8 +1,8 @@
--- `held::holds_verify` meets its contract: the Verify identifiers are the first ones of their array.
+-- `held_lists::holds_verify` meets its contract: the Verify identifiers are the first ones of their array.
 use borrow.Author.Needs.{needs}
 use Rattle.protocol.specs.Links.{holdsVerify, verifiesOf}
-use Rattle.held.proofs.holds_verify.Statement.{statement}
-use Rattle.held.proofs.holds_verify.Tie as tie
+use Rattle.held_lists.proofs.holds_verify.Statement.{statement}
+use Rattle.held_lists.proofs.holds_verify.Tie as tie
 
 cast-count : tie.Need-cast-count
 cast-count c = search needs

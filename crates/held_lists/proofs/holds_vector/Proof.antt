@@ -1,11 +1,11 @@
--- `held::holds_vector` meets its contract: the kind first, then the list.
+-- `held_lists::holds_vector` meets its contract: the kind first, then the list.
 use mathlib.Core.Path.{_∙_}
 use borrow.Author.Tests.{eq-eqb, ne-eqb}
 use borrow.Author.Needs.{needs}
 use Rattle.protocol.specs.Links.{holdsVector}
 use Rattle.lists.specs.Choice.{and}
-use Rattle.held.proofs.holds_vector.Statement.{statement}
-use Rattle.held.proofs.holds_vector.Tie as tie
+use Rattle.held_lists.proofs.holds_vector.Statement.{statement}
+use Rattle.held_lists.proofs.holds_vector.Tie as tie
 
 returns : tie.Need-returns
 unfolding holdsVector and
