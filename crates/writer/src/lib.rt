@@ -2,10 +2,10 @@
 // was.
 use frame::kind::kind_refusal;
 use frame::kind::length_of;
-use frame::list::list_refusal;
 use framing::put;
 use limits::net_refusal;
 use limits::refusal;
+use message_lists::list_refusal;
 ghost use mathlib.Core.Path.{_≡_};
 ghost use lib.ListN.{length};
 ghost use Rattle.writer.specs.Writing.{writeRefusal, writtenOf, writeOutput};

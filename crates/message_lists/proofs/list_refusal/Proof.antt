@@ -1,3 +1,4 @@
+-- `message_lists::list_refusal` meets its contract: each return is the definition at what the two tests ensured.
 use Prim.Native.Nat.{ℕ}
 use mathlib.Core.List.{List}
 use mathlib.Core.Bool.{Bool}
@@ -7,12 +8,10 @@ use borrow.Author.Needs.{needs}
 use lib.Seq.{take-length}
 use lib.ListN.{length, take}
 use Rattle.lists.specs.Lists.{nonzero, ascending}
 use Rattle.frame.specs.Reading.{listRefusal}
 use Rattle.lists.specs.Choice.{choose}
-use Rattle.frame.proofs.list.list_refusal.Statement.{statement}
-use Rattle.frame.proofs.list.list_refusal.Tie as tie
-
--- `frame::list::list_refusal` meets its contract: each return is the definition at what the two tests ensured.
+use Rattle.message_lists.proofs.list_refusal.Statement.{statement}
+use Rattle.message_lists.proofs.list_refusal.Tie as tie
 
 -- a test of a list's whole front is the test of the list
 whole : (f : List ℕ → Bool) (s : List ℕ) {r t : Bool} → r ≡ f (take (length s) s) → r ≡ t → f s ≡ t
