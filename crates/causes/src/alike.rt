@@ -3,7 +3,7 @@ use crate::forms::kind_of;
 use crate::line::fields_from;
 use crate::line::is_same;
 use crate::line::line_at;
-use output::parts::plus;
+use parts::plus;
 
 // Whether two lines have one word, and are the same from a field on.
 fn alike(one: &[u8], other: &[u8], from: usize) -> bool {

@@ -1,5 +1,5 @@
 // Bytes of a line, counted and looked for.
-use output::parts::plus;
+use parts::plus;
 
 // Which bytes are looked for.
 pub(crate) const SPACE: u8 = 0;

@@ -1,6 +1,6 @@
 // A cause: a sentence and what is put into it.
 use crate::sentences::NONE;
-use output::parts::plus;
+use parts::plus;
 
 pub(crate) struct Cause {
     // Its row.

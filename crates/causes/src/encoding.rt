@@ -3,8 +3,8 @@ use crate::cause::Cause;
 use crate::cause::said;
 use crate::sentences;
 use crate::sentences::NONE;
-use output::parts::part;
-use output::parts::plus;
+use parts::part;
+use parts::plus;
 use text::word::Word;
 use text::word::word_at;
 

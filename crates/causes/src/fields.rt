@@ -27,8 +27,8 @@ use crate::line::value;
 use crate::sentences;
 use crate::sentences::NONE;
 use limits::LONGEST_FORGERY;
-use output::parts::between;
-use output::parts::plus;
+use parts::between;
+use parts::plus;
 use text::number::Number;
 use text::number::number_at;
 

@@ -21,8 +21,8 @@ use crate::line::fields_from;
 use crate::sentences;
 use crate::sentences::NONE;
 use limits::LONGEST_SCHEDULE;
-use output::parts::between;
-use output::parts::plus;
+use parts::between;
+use parts::plus;
 
 // The line of the header that belongs here: of the net, or of base b in line b + 1.
 pub(crate) fn belongs(number: usize) -> Cause {

@@ -3,7 +3,7 @@ use crate::bytes::LINE_FEED;
 use crate::bytes::SPACE;
 use crate::bytes::behind;
 use crate::bytes::place_of;
-use output::parts::part;
+use parts::part;
 use text::number::Number;
 use text::number::number_at;
 use text::word::Word;

@@ -10,10 +10,10 @@ use crate::sentences::NONE;
 use crate::sentences::SENTENCES;
 use limits::LONGEST_SCHEDULE;
 use output::number;
-use output::parts::between;
-use output::parts::part;
 use output::text;
 use output::visible;
+use parts::between;
+use parts::part;
 
 // Bytes of a line that are shown, and those of them that are its last.
 const SHOWN: usize = 80;

@@ -20,7 +20,7 @@ use Rattle.protocol.specs.Steps.{lengths, outcomeOf, outputOf}
 use Rattle.protocol.specs.Steps.Refusals.{unless-passed, unless-refused, output-passed}
 use Rattle.change.specs.declared.Change.{Change}
 use Rattle.change.specs.Change.{changedBase, Does}
-use Rattle.writer.specs.declared.TwoLengths.{TwoLengths}
+use Rattle.two_frames.specs.declared.TwoLengths.{TwoLengths}
 use Rattle.starting.specs.Starting.{startFrames, startLength}
 use Rattle.starting.specs.Starting.Laws.{start-length-is, start-says}
 

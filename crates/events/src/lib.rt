@@ -3,10 +3,10 @@
 use faulty_links::Faulty;
 use faulty_links::is_good;
 use limits::refusal;
+use marks::heard;
 use node::Node;
 use node::log::broadcast;
 use node::log::broadcasts;
-use node::marks::heard;
 use node_arrivals::hear_burst;
 use node_arrivals::hear_frame;
 use numbering::link_to;

@@ -85,7 +85,7 @@ pub(crate) fn written(n: usize, kind: u8, ids: &[u32], output: &mut [u8]) {
 
 // The lengths of two frames, and the output after them.
 pub(crate) fn two(kind: u8, next: u8, n: u8, ids: &[u32], output: &mut [u8]) {
-    let lengths = writer::put_two(kind, next, n, ids, output);
+    let lengths = two_frames::put_two(kind, next, n, ids, output);
     labelled(b"lengths ", lengths.front as u64);
     labelled(b" ", lengths.next as u64);
     bytes(output);

@@ -9,7 +9,7 @@ use net::nodes::node_at;
 use node::Node;
 use node::log::broadcast;
 use numbering::link_to;
-use output::parts::part;
+use parts::part;
 use trace::call;
 use trace::call::Arrival;
 

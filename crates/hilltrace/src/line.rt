@@ -1,7 +1,7 @@
 // The lines of the header, as they stand.
-use output::parts::between;
-use output::parts::part;
-use output::parts::plus;
+use parts::between;
+use parts::part;
+use parts::plus;
 
 // `line L: ` and the schedule's own line, which ends before next.
 pub(crate) fn show_line(s: &[u8], at: usize, number: usize, next: usize) {

@@ -16,7 +16,7 @@ use limits::refusal::FORM;
 use net::Header;
 use net::StoredNet;
 use net::made::begun;
-use output::parts::part;
+use parts::part;
 use replay::REPORT_ROOM;
 use trace::waits::itemise;
 

@@ -3,10 +3,10 @@
 use comparison::zero_behind;
 use frame::kind::Shape;
 use frame::kind::shape_of;
-use frame::list::list_refusal;
 use limits::MOST_BASES;
 use limits::refusal;
 use lists::least;
+use message_lists::list_refusal;
 ghost use mathlib.Core.Path.{_≡_};
 ghost use Rattle.messages.specs.Messages.{messageRefusal};
 

@@ -14,7 +14,6 @@ use Rattle.protocol.specs.Steps.{Done}
 use Rattle.node.specs.declared.Frame.{Frame}
 use Rattle.node.specs.declared.Node.{Node}
 pub mod Within
-pub mod Counts
 pub mod Memory
 pub mod Log
 

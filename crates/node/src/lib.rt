@@ -1,7 +1,6 @@
 // One base of a net as the program keeps it: its record, its broadcasts in the order written, and which broadcasts of the others
 // were carried to it. specs/Node.antt says what it stands for.
 pub mod log;
-pub mod marks;
 
 use limits::LONGEST_FRAME;
 use limits::MOST_BASES;

@@ -1,9 +1,6 @@
-// Standard output, written in pieces as they come, and parts of slices for any numbers.
-pub mod parts;
-
+// Standard output, written in pieces as they come.
 use libc::STDOUT_FILENO;
-ghost use mathlib.Core.Path.{_≡_};
-ghost use Rattle.output.specs.Parts.{printing};
+use parts::prints;
 
 pub fn text(words: &[u8]) {
     io::write_all(STDOUT_FILENO, words);
@@ -11,16 +8,6 @@ pub fn text(words: &[u8]) {
 
 pub fn number(v: usize) {
     io::print_decimal(STDOUT_FILENO, v as u64);
-}
-
-// Whether a byte is seen where it is written: a space and the signs of ASCII.
-pub fn prints(b: u8) -> bool
-    ensures { λ r. ⌜ r ≡ printing b ⌝ }
-{
-    if b < b' ' {
-        return false;
-    }
-    b <= b'~'
 }
 
 fn plain_byte(b: u8) {

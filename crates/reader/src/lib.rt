@@ -2,12 +2,12 @@
 use decoding::identifiers;
 use frame::kind::kind_refusal;
 use frame::kind::length_of;
-use frame::list::list_refusal;
 use limits::LONGEST_BURST;
 use limits::SHORTEST_BURST;
 use limits::TRAILER_BYTES;
 use limits::net_refusal;
 use limits::refusal;
+use message_lists::list_refusal;
 ghost use mathlib.Core.Path.{_≡_};
 ghost use Prim.Native.Nat.{_+_, _≤_};
 ghost use lib.ListN.{length};

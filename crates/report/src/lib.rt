@@ -1,7 +1,7 @@
 // The lines of a report. Where there is no room for any line, nothing is written and the place stays.
 use print::has_room;
-use print::put_field;
 use print::put_text;
+use print_fields::put_field;
 use protocol::Base;
 use state_text::STATE_ROOM;
 use state_text::put_state;

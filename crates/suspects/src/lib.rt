@@ -2,7 +2,7 @@
 use certified::link_count;
 use counting::one;
 use held::has_announce;
-use held::holds_verify;
+use held_lists::holds_verify;
 use membership::holds;
 use protocol::Base;
 use protocol::Link;

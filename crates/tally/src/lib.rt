@@ -3,7 +3,7 @@ use certified::certified_ids;
 use certified::certifies;
 use certified::link_count;
 use counting::one;
-use held::holds_verify;
+use held_lists::holds_verify;
 use limits::MOST_BASES;
 use membership::holds;
 use protocol::Base;

@@ -1,8 +1,8 @@
 // The frames that a call broadcast.
 use crate::say;
 use c_answers::CallAnswer;
-use output::parts::part;
-use output::parts::plus;
+use parts::part;
+use parts::plus;
 
 // Base b of n, which had made so many broadcasts, and whether it stops.
 pub(crate) struct Caller {

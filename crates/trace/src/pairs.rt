@@ -3,11 +3,11 @@ use crate::links::far_end;
 use crate::links::link_at;
 use certified::link_count;
 use held::has_announce;
-use held::holds_verify;
+use held_lists::holds_verify;
 use limits::MOST_BASES;
 use output::number;
-use output::parts::plus;
 use output::text;
+use parts::plus;
 use protocol::Base;
 use protocol::Link;
 

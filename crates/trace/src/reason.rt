@@ -5,7 +5,7 @@ use frame::kind::ANNOUNCE;
 use frame::kind::CORRECT_FINAL;
 use frame::kind::VERIFY;
 use held::has_announce;
-use held::holds_verify;
+use held_lists::holds_verify;
 use protocol::Base;
 use protocol::Link;
 

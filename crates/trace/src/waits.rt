@@ -1,11 +1,11 @@
 // What waits, by its numbers: broadcasts that were not carried to a base at the other end of a good link.
 use faulty_links::is_good;
+use marks::heard;
+use marks::unheard;
 use net::StoredNet;
 use net::nodes::node_at;
 use node::Node;
 use node::log::broadcasts;
-use node::marks::heard;
-use node::marks::unheard;
 use output::number;
 use output::text;
 

@@ -3,7 +3,7 @@ use certified::link_count;
 use counting::one;
 use held::HELD_CORRECT_FINAL;
 use held::HELD_VERIFY_FINAL;
-use held::holds_vector;
+use held_lists::holds_vector;
 use limits::MOST_BASES;
 use protocol::Base;
 ghost use Prim.Native.Nat.{_≤_};

@@ -1,36 +1,17 @@
--- What the writer's calls answer and leave in the output (document 01, "Frames, read from the end" and "Turning calls down").
-use mathlib.Core.Bool.{Bool}
-use mathlib.Core.List.{List, _++_}
-use Prim.Native.Nat.{ℕ, _-_}
+-- What the writer's call answers and leaves in the output (document 01, "Frames, read from the end" and "Turning calls down").
+use mathlib.Core.List.{List}
+use Prim.Native.Nat.{ℕ}
 use lib.Dec.{eqb, ltb}
 use lib.ListN.{length}
-use Rattle.lists.specs.Choice.{choose, and, first}
+use Rattle.lists.specs.Choice.{choose, first}
 use Rattle.frame.specs.Message.{lengthOf}
 use Rattle.frame.specs.Encoding.{frameOf, over}
 use Rattle.frame.specs.Reading.{kindRefusal, listRefusal}
-use Rattle.framing.specs.Framing.{frameFits}
 use Rattle.limits.specs.Refusals.{netRefusal}
-use Rattle.writer.specs.declared.TwoLengths.{TwoLengths}
 use Rattle.writer.specs.declared.Written.{Written}
 use Rattle.writer.specs.declared.Written.the-variants.{Length, Refused}
 pub mod Laws
 pub mod Theorems
-
--- ---- two frames of the same identifiers, one after the other: the second fits in the room that the first leaves
-unfoldable pub twoFit : ℕ → ℕ → ℕ → ℕ → ℕ → Bool
-twoFit n kind next count room = and (frameFits n kind count room) (frameFits n next count (room - lengthOf kind n))
-
-unfoldable pub twoLengths : ℕ → ℕ → ℕ → ℕ → ℕ → TwoLengths
-twoLengths n kind next count room =
-    choose (twoFit n kind next count room)
-    (record { front = lengthOf kind n; next = lengthOf next n })
-    (record { front = 0; next = 0 })
-
-unfoldable pub twoOutput : ℕ → ℕ → ℕ → List ℕ → List ℕ → List ℕ
-twoOutput n kind next ids output =
-    choose (twoFit n kind next (length ids) (length output))
-    (over (frameOf kind ids ++ frameOf next ids) output)
-    output
 
 -- ---- a message by its kind and identifiers, or the number by which it is turned down; 0 for none
 -- 1. n is not 2 to 16.

@@ -1,44 +1,19 @@
-// Frames at the front of an output: two of the same identifiers, or that of a message, which may be turned down. What stands past them
-// in the output stays as it was.
+// The frame of a message at the front of an output, or the number by which it is turned down. What stands past it in the output stays as it
+// was.
 use frame::kind::kind_refusal;
 use frame::kind::length_of;
-use frame::list::list_refusal;
-use framing::frame_fits;
 use framing::put;
 use limits::net_refusal;
 use limits::refusal;
+use message_lists::list_refusal;
 ghost use mathlib.Core.Path.{_≡_};
 ghost use lib.ListN.{length};
-ghost use Rattle.writer.specs.Writing.{twoLengths, twoOutput, writeRefusal, writtenOf, writeOutput};
+ghost use Rattle.writer.specs.Writing.{writeRefusal, writtenOf, writeOutput};
 
 // What a write answers: the frame's length, or the number by which it is turned down.
 pub enum Written {
     Length(usize),
     Refused(u8),
-}
-
-// The lengths of two frames, one after the other.
-pub struct TwoLengths {
-    pub front: usize,
-    pub next: usize,
-}
-
-// Two frames of the same identifiers, where both are as `put` asks and the output has the room for both; the second goes into the rest of
-// the output.
-pub fn put_two(kind: u8, next: u8, n: u8, ids: &[u32], out: &mut [u8]) -> TwoLengths
-    ensures { λ r. ⌜ (r ≡ twoLengths n kind next (length (now (ids .entry))) (length (now (out .entry))))
-        × (now (out .exit) ≡ twoOutput n kind next (now (ids .entry)) (now (out .entry))) ⌝ }
-{
-    if !frame_fits(kind, n, ids.len(), out.len()) {
-        return TwoLengths { front: 0, next: 0 };
-    }
-    let front = length_of(kind, n);
-    if !frame_fits(next, n, ids.len(), out.len() - front) {
-        return TwoLengths { front: 0, next: 0 };
-    }
-    put(kind, n, ids, out);
-    let back = put(next, n, ids, &mut out[front..]);
-    TwoLengths { front, next: back }
 }
 
 fn write_refusal(n: usize, kind: u8, ids: &[u32], room: usize) -> u8

@@ -3,7 +3,7 @@ use Rattle.starting.specs.Starting.{startFrames, startLength, firstFrame
 use Rattle.starting.specs.Starting.Laws.{start-long, start-fits, start-short, first-change}
 use Rattle.settling.specs.Settling.{toldFrames}
 use Rattle.broadcasting.specs.Broadcasting.Laws.{rest-length}
-use Rattle.writer.specs.declared.TwoLengths.{TwoLengths}
+use Rattle.two_frames.specs.declared.TwoLengths.{TwoLengths}
 use Rattle.frame.specs.Encoding.Laws.{over-rest}
 use Rattle.frame.specs.Encoding.{over}
 use lib.ListN.{length, take, drop}

@@ -1,4 +1,4 @@
--- The two frames of a start are those that the writer puts; and what a first message changes, as the code has it.
+-- The two frames of a start are those that `put_two` puts; and what a first message changes, as the code has it.
 use Prim.Native.Nat.{ℕ, _+_, _*_, _-_, _≤_}
 use mathlib.Core.Path.{_≡_, refl, sym, ap, ap₂, _∙_}
 use mathlib.Core.Bool.{Bool, true, false}
@@ -15,9 +15,9 @@ use Rattle.frame.specs.Encoding.{frameOf, encode, over}
 use Rattle.frame.specs.Encoding.Laws.{length-frame, over-nothing}
 use Rattle.frame.specs.Reading.Laws.{announce-kind, verify-kind, kind-size}
 use Rattle.framing.specs.Framing.Laws.{fits-passed}
-use Rattle.writer.specs.declared.TwoLengths.{TwoLengths}
-use Rattle.writer.specs.Writing.{twoFit, twoLengths, twoOutput}
-use Rattle.writer.specs.Writing.Laws.{put-two-lengths, put-two-output}
+use Rattle.two_frames.specs.declared.TwoLengths.{TwoLengths}
+use Rattle.two_frames.specs.TwoFrames.{twoFit, twoLengths, twoOutput}
+use Rattle.two_frames.specs.TwoFrames.Laws.{put-two-lengths, put-two-output}
 use Rattle.protocol.specs.declared.Base.{Base}
 use Rattle.protocol.specs.declared.Outcome.{Outcome}
 use Rattle.protocol.specs.Steps.{accepts, begins, encodeAll}
@@ -28,7 +28,7 @@ use Rattle.broadcasting.specs.Broadcasting.{behindStart}
 use Rattle.settling.specs.Settling.{toldChange}
 use Rattle.starting.specs.Starting.{startFrames, startLength, firstChange}
 
--- ---- what the writer puts
+-- ---- what `put_two` puts
 both-fit : (n room : ℕ) → twoFit n 1 2 1 room ≡ true → 2 * frameBytes 1 ≤ room
 unfolding twoFit
 both-fit n room t = let p = and-true _ _ t in omega (

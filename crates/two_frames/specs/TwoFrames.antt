@@ -1,0 +1,26 @@
+-- Two frames of the same identifiers at the front of an output, one after the other: the second fits in the room that the first leaves.
+use mathlib.Core.Bool.{Bool}
+use mathlib.Core.List.{List, _++_}
+use Prim.Native.Nat.{ℕ, _-_}
+use lib.ListN.{length}
+use Rattle.lists.specs.Choice.{choose, and}
+use Rattle.frame.specs.Message.{lengthOf}
+use Rattle.frame.specs.Encoding.{frameOf, over}
+use Rattle.framing.specs.Framing.{frameFits}
+use Rattle.two_frames.specs.declared.TwoLengths.{TwoLengths}
+pub mod Laws
+
+unfoldable pub twoFit : ℕ → ℕ → ℕ → ℕ → ℕ → Bool
+twoFit n kind next count room = and (frameFits n kind count room) (frameFits n next count (room - lengthOf kind n))
+
+unfoldable pub twoLengths : ℕ → ℕ → ℕ → ℕ → ℕ → TwoLengths
+twoLengths n kind next count room =
+    choose (twoFit n kind next count room)
+    (record { front = lengthOf kind n; next = lengthOf next n })
+    (record { front = 0; next = 0 })
+
+unfoldable pub twoOutput : ℕ → ℕ → ℕ → List ℕ → List ℕ → List ℕ
+twoOutput n kind next ids output =
+    choose (twoFit n kind next (length ids) (length output))
+    (over (frameOf kind ids ++ frameOf next ids) output)
+    output
