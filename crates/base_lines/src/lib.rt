@@ -1,10 +1,10 @@
 // The lines of all bases of a net. Where there is no room for so many lines, nothing is written.
+use base_line::base_line;
 use limits::MOST_BASES;
 use lists::least;
 use net::StoredNet;
 use print::has_room;
 use report::LINE_ROOM;
-use report::base_line;
 ghost use mathlib.Core.Path.{_≡_};
 ghost use Prim.Native.Nat.{_*_, _≤_};
 ghost use Rattle.limits.specs.Limits.{mostBases};

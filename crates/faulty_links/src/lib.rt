@@ -1,13 +1,12 @@
 // The links that are named faulty.
 use limits::MOST_FAULTY;
 use limits::refusal::FAULTY_LINKS;
+use lists::least;
 ghost use mathlib.Core.Path.{_≡_};
-ghost use lib.ListN.{length};
-ghost use Prim.Native.Nat.{_≤_};
 ghost use lib.Dec.{eqb};
 ghost use Rattle.lists.specs.Choice.{and};
 ghost use Rattle.protocol.specs.Net.{joins, good};
-ghost use Rattle.faulty_links.specs.Faulty.{pairOf, pairsOf, faultyRoom, noFaulty, markedFaulty};
+ghost use Rattle.faulty_links.specs.Faulty.{pairOf, pairsOf, noFaulty, markedFaulty};
 ghost use Rattle.schedule.specs.Header.{faultyRefusal};
 
 // A link by its two bases.
@@ -40,21 +39,11 @@ fn joins_bases(pair: FaultyLink, a: u8, b: u8) -> bool
     is_from(pair, b, a)
 }
 
-// How many are named.
-fn named_faulty(faulty: Faulty) -> usize
-    ensures { λ r. ⌜ (r ≡ length (pairsOf faulty)) × (r ≤ faultyRoom) ⌝ }
-{
-    if MOST_FAULTY < faulty.count {
-        return MOST_FAULTY;
-    }
-    faulty.count
-}
-
 // Whether the link between a and b is good.
 pub fn is_good(faulty: Faulty, a: u8, b: u8) -> bool
     ensures { λ r. ⌜ r ≡ good (pairsOf faulty) a b ⌝ }
 {
-    let count = named_faulty(faulty);
+    let count = least(faulty.count, MOST_FAULTY);
     let mut i: usize = 0;
     while i < count {
         if joins_bases(faulty.pairs[i], a, b) {
@@ -69,7 +58,7 @@ pub fn is_good(faulty: Faulty, a: u8, b: u8) -> bool
 pub fn faulty_refusal(faulty: Faulty, t: u8) -> u8
     ensures { λ r. ⌜ r ≡ faultyRefusal t (pairsOf faulty) ⌝ }
 {
-    if (t as usize) <= named_faulty(faulty) {
+    if (t as usize) <= least(faulty.count, MOST_FAULTY) {
         return FAULTY_LINKS;
     }
     0

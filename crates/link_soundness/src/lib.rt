@@ -9,7 +9,7 @@ use membership::differ;
 use membership::none_zero;
 use protocol::Link;
 ghost use mathlib.Core.Path.{_≡_};
-ghost use Rattle.protocol.specs.Sound.{listSound, verifiesSound, heldSound, linkSound, linkEmpty, placeSound};
+ghost use Rattle.protocol.specs.Sound.{listSound, verifiesSound, heldSound, linkSound, placeSound};
 
 // n identifiers as kinds 3 and 4 demand, and zeros behind.
 pub fn list_sound(n: u8, list: [u32; MOST_BASES]) -> bool
@@ -64,33 +64,21 @@ fn link_sound(n: u8, link: Link) -> bool
     held_sound(n, link)
 }
 
-pub fn link_empty(link: Link) -> bool
-    ensures { λ r. ⌜ r ≡ linkEmpty link ⌝ }
-{
-    if link.announce != 0 {
-        return false;
-    }
-    if link.verify_count != 0 {
-        return false;
-    }
-    if !zero_behind(&link.verifies, 0) {
-        return false;
-    }
-    if link.held != 0 {
-        return false;
-    }
-    zero_behind(&link.list, 0)
-}
-
-// The link at place i: sound where the base has it, empty past its n - 1 links.
+// The link at place i: sound, and past the base's n - 1 links empty, which is sound with nothing held.
 pub fn place_sound(n: u8, i: usize, link: Link) -> bool
     ensures { λ r. ⌜ r ≡ placeSound n i link ⌝ }
 {
+    if !link_sound(n, link) {
+        return false;
+    }
     let bases = n as usize;
     if 0 < bases {
         if i < bases - 1 {
-            return link_sound(n, link);
+            return true;
         }
     }
-    link_empty(link)
+    if held_count(link) != 0 {
+        return false;
+    }
+    link.held == 0
 }

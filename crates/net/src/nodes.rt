@@ -1,12 +1,12 @@
 // The bases of a net by their numbers, from 1.
 use crate::StoredNet;
+use idle::idle_base;
 use limits::LONGEST_FRAME;
 use limits::MOST_BASES;
 use node::Frame;
 use node::MARKS;
 use node::MOST_BROADCASTS;
 use node::Node;
-use soundness::idle::idle_base;
 ghost use mathlib.Core.Path.{_≡_};
 ghost use Rattle.net.specs.Abstraction.{emptyNode, nodeAt};
 ghost use Rattle.net.specs.Header.{idleNode};

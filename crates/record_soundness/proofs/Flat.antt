@@ -1,53 +1,22 @@
 -- The rules of a sound record, each link looked at once: the links of an idle base are those of a net of one, all empty, and an empty
 -- link is sound in any net.
-use Prim.Native.Nat.{ℕ, _+_, _-_}
+use Prim.Native.Nat.{ℕ}
 use mathlib.Core.Path.{_≡_, refl, sym, ap, ap₂, _∙_}
-use mathlib.Core.Bool.{Bool, true, false, not}
-use mathlib.Core.List.{[]}
-use native.Mathlib.Decide.{decLt}
+use mathlib.Core.Bool.{Bool, true, false}
 use native.Mathlib.Omega.{arith}
-use borrow.Author.Tests.{eqb-true, le-leb, eq-eqb}
+use borrow.Author.Tests.{eqb-true, le-leb}
 use lib.Dec.{eqb, leb}
-use lib.ListN.{take, drop}
 use Rattle.limits.specs.Limits.{mostLinks}
 use Rattle.lists.specs.Choice.{choose, and}
-use Rattle.lists.specs.Choice.Laws.{and-no, choose-yes}
-use Rattle.lists.specs.Lists.{nonzero, distinct, zeros}
-use Rattle.counting.specs.Sums.{bit, all}
+use Rattle.lists.specs.Choice.Laws.{and-no}
+use Rattle.counting.specs.Sums.{all}
 use Rattle.counting.specs.Sums.Laws.{all-at}
 use Rattle.counting.specs.Sums.Bounds.{all-each}
-use Rattle.protocol.specs.declared.Link.{Link}
 use Rattle.protocol.specs.declared.Base.{Base}
-use Rattle.protocol.specs.Links.{announces, verifiesOf, used}
 use Rattle.protocol.specs.Record.{linkAt}
-use Rattle.protocol.specs.Sound.{heldSound, linkEmpty, linkSound, placeSound, linksSound, linksEmpty, idle, announcesSound, finalSound}
-use Rattle.protocol.specs.Sound.{idleSound, sound}
-use Rattle.protocol.specs.Sound.Laws.{EmptyParts, empty-parts, parts-link, place-used, place-unused}
-
--- ---- an empty link
-used-none : (l : Link) → EmptyParts l → used l ≡ 0
-unfolding used announces bit
-used-none l E = ap₂ (λ (c a : ℕ). c + bit (not (eqb a 0))) (E .count) (E .announce)
-
-verifies-none : (l : Link) → EmptyParts l → verifiesOf l ≡ []
-unfolding verifiesOf
-verifies-none l E = ap (λ (c : ℕ). take c (l .verifies)) (E .count)
-
-empty-link : (n : ℕ) (l : Link) → EmptyParts l → linkSound n l ≡ true
-unfolding nonzero distinct heldSound
-empty-link n l E = parts-link (record {
-  room = omega (arith, used-none l E);
-  above-zero = ap nonzero (verifies-none l E);
-  apart = ap distinct (verifies-none l E);
-  behind = ap (λ (c : ℕ). zeros (drop c (l .verifies))) (E .count) ∙ E .verifies;
-  held = choose-yes _ _ (eq-eqb (l .held) 0 (E .held)) ∙ E .list;
-})
-
-empty-place : (n i : ℕ) (l : Link) → linkEmpty l ≡ true → placeSound n i l ≡ true
-empty-place n i l e = elim (decLt i (n - 1)) [
-  | yes h ↦ place-used n i l h ∙ empty-link n l (empty-parts l e)
-  | no h ↦ place-unused n i l (omega (arith, h)) ∙ e
-]
+use Rattle.protocol.specs.Sound.{placeSound, linksSound, linksEmpty, idle, announcesSound, finalSound, idleSound, sound}
+use Rattle.protocol.specs.Sound.Laws.{place-unused}
+use Rattle.link_soundness.proofs.Empty.{empty-place}
 
 module _ (b : Base) where
   empties : linksEmpty b ≡ true → linksSound b ≡ true

@@ -1,14 +1,12 @@
-// The lines of a report. Where there is no room for any line, nothing is written and the place stays.
+// The lines of a report but for those of the bases. Where there is no room for any line, nothing is written and the place stays.
 use print::has_room;
 use print::put_text;
 use print_fields::put_field;
-use protocol::Base;
 use state_text::STATE_ROOM;
-use state_text::put_state;
 ghost use mathlib.Core.Path.{_≡_};
 ghost use Prim.Native.Nat.{_+_, _≤_};
 ghost use Rattle.print.specs.Put.{roomEnd, roomOutput};
-ghost use Rattle.schedule.specs.Report.{baseLine, waitingLine, refusedLine, lineRoom};
+ghost use Rattle.schedule.specs.Report.{waitingLine, refusedLine, lineRoom};
 
 // The bytes of `base `, the digits of a base's number, and the line feed.
 const BASE_BYTES: usize = 5;
@@ -19,20 +17,6 @@ const FEED_BYTES: usize = 1;
 
 // Room for any line: the longest is that of a base.
 pub const LINE_ROOM: usize = BASE_BYTES + NUMBER_DIGITS + STATE_ROOM + FEED_BYTES;
-
-// `base 1 prime 300 500 leader 500`, `base 3 running` or `base 3 idle`.
-pub fn base_line(out: &mut [u8], at: usize, number: u8, base: Base) -> usize
-    ensures { λ r. ⌜ r ≡ roomEnd lineRoom (now (out .entry)) at (baseLine number base) ⌝ }
-    ensures { λ r. ⌜ now (out .exit) ≡ roomOutput lineRoom (now (out .entry)) at (baseLine number base) ⌝ }
-    ensures { λ r. ⌜ r ≤ at + lineRoom ⌝ }
-{
-    if !has_room(out.len(), at, LINE_ROOM) {
-        return at;
-    }
-    let first = put_field(out, at, b"base ", number as u64);
-    let second = put_state(out, first, base);
-    put_text(out, second, b"\n")
-}
 
 // `waiting 2`
 pub fn waiting_line(out: &mut [u8], at: usize, count: usize) -> usize

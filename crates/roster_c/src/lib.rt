@@ -8,8 +8,8 @@ use c_answers::outcome_numbers;
 use c_answers::read_numbers;
 use c_answers::written_numbers;
 use change::changed;
+use idle::Made;
 use protocol::Base;
-use soundness::idle::Made;
 ghost use mathlib.Core.Path.{_≡_};
 ghost use lib.ListN.{length};
 ghost use Rattle.writer.specs.Writing.{writtenOf, writeOutput};
@@ -17,7 +17,7 @@ ghost use Rattle.decoding.specs.Decoding.{idArray};
 ghost use Rattle.reader.specs.Answers.{readingOf, stretch};
 ghost use Rattle.protocol.specs.Steps.{arrival, start, leaderAnswer};
 ghost use Rattle.change.specs.Change.{DoesAs};
-ghost use Rattle.soundness.specs.Made.{madeOf};
+ghost use Rattle.idle.specs.Made.{madeOf};
 ghost use Rattle.schedule.specs.Report.{replayLength, replayOutput};
 ghost use Rattle.roster_c.specs.Version.{version};
 ghost use Rattle.c_answers.specs.Numbers.{outcomeNumbers, leaderNumbers, writtenNumbers, readNumbers};
@@ -30,7 +30,7 @@ const VERSION: u32 = 1;
 pub extern "C" fn roster_idle(n: usize, t: usize, own: u32) -> Made
     ensures { λ r. ⌜ r ≡ madeOf n t own ⌝ }
 {
-    soundness::idle::make_idle(n, t, own)
+    idle::make_idle(n, t, own)
 }
 
 // Starts an idle base. Turned down by 1 to 4 and 6.

@@ -1,3 +1,2 @@
-// Numbers 1 to 6 of the calls, and the idle record to begin with.
-pub mod idle;
+// Numbers 1 to 6 of the calls.
 pub mod refusals;

@@ -6,7 +6,8 @@ use borrow.Author.Needs.{needs}
 use lib.ListN.{length, drop}
 use Rattle.protocol.specs.Net.{good}
 use Rattle.faulty_links.specs.Faulty.{pairsOf, faultyRoom}
-use Rattle.faulty_links.specs.Faulty.Pairs.{joined-there, good-broken, good-next, good-end}
+use Rattle.faulty_links.specs.Faulty.Pairs.{pairs-named, joined-there, good-broken, good-next, good-end}
+use Rattle.faulty_links.proofs.Sizes.{faulty-sized}
 use Rattle.faulty_links.proofs.is_good.Statement.{statement}
 use Rattle.faulty_links.proofs.is_good.Tie as tie
 
@@ -20,11 +21,12 @@ abbrev μ-loop : tie.MeasureT-loop
 here : (c : tie.In-loop Inv-loop μ-loop) → c .before .loop .i < length (pairsOf (c .before .before .before .args .t1))
 here c = omega (arith, c .before .loop .inv .0, c .loop-test .taken)
 
-named-faulty-requires : tie.Need-named-faulty-requires Inv-loop μ-loop
-named-faulty-requires c κs = search needs
+least-requires : tie.Need-least-requires Inv-loop μ-loop
+least-requires c κs = search needs
 
 loop-holds : tie.Need-loop-holds Inv-loop μ-loop
-loop-holds c = (c .named-faulty .ensures .0, c .named-faulty .ensures .1, omega arith, refl)
+loop-holds c = let s = c .before in let e = c .least .ensures in
+    (pairs-named _ (faulty-sized (s .args .t1) _ (s .good .0)) e, omega (arith, e), omega arith, refl)
 
 mul-joins-bases : tie.Need-mul-joins-bases Inv-loop μ-loop
 mul-joins-bases c = search needs
@@ -60,7 +62,7 @@ is-good-spec =
     (tie.spec
     Inv-loop
     μ-loop
-    named-faulty-requires
+    least-requires
     loop-holds
     mul-joins-bases
     element-copy-out-joins-bases

@@ -1,25 +1,22 @@
 -- Whether a link is good, pair by pair.
-use Prim.Native.Nat.{ℕ, _+_, _≤_, _<_}
+use Prim.Native.Nat.{ℕ, _+_, _<_, min}
 use mathlib.Core.Path.{_≡_, sym, ap, _∙_}
 use mathlib.Core.Bool.{Bool, true, false}
 use mathlib.Core.List.{List}
 use native.Mathlib.Numerals.{add-one}
 use native.Mathlib.Omega.{arith}
 use lib.ListN.{length, getD, take, drop, length-map, length-take, List·getD-map}
-use lib.Seq.{length-take-le, take-all, getD-take, drop-cons, drop-length}
+use lib.Seq.{getD-take, drop-cons, drop-length}
 use Rattle.lists.specs.Choice.{and}
 use Rattle.protocol.specs.Net.{Pair, joins, good}
 use Rattle.faulty_links.specs.declared.Faulty.{Faulty}
-use Rattle.faulty_links.specs.Faulty.{pairOf, pairsOf, noPair}
+use Rattle.faulty_links.specs.Faulty.{faultyRoom, pairOf, pairsOf, noPair}
 
 -- ---- how many are named
-pub pairs-part : (f : Faulty) → f .count ≤ length (f .pairs) → length (pairsOf f) ≡ f .count
+pub pairs-named : (f : Faulty) → length (f .pairs) ≡ faultyRoom → {r : ℕ} → r ≡ min (f .count) faultyRoom → r ≡ length (pairsOf f)
 unfolding pairsOf
-pairs-part f h = length-map (take (f .count) (f .pairs)) pairOf ∙ length-take-le (f .count) (f .pairs) h
-
-pub pairs-full : (f : Faulty) → length (f .pairs) ≤ f .count → length (pairsOf f) ≡ length (f .pairs)
-unfolding pairsOf
-pairs-full f h = length-map (take (f .count) (f .pairs)) pairOf ∙ ap length (take-all (f .count) (f .pairs) h)
+pairs-named f e least = least
+    ∙ sym (length-map (take (f .count) (f .pairs)) pairOf ∙ length-take (f .count) (f .pairs) ∙ ap (min (f .count)) e)
 
 pub pair-there : (f : Faulty) (i : ℕ) → i < length (pairsOf f) → pairOf (getD (f .pairs) i noPair) ≡ getD (pairsOf f) i (pairOf noPair)
 unfolding pairsOf

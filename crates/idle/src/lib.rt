@@ -1,14 +1,14 @@
 // The record of a base that has not started.
-use crate::refusals::setting_refusal;
 use limits::LIST_ROOM;
 use limits::MOST_BASES;
 use limits::MOST_LINKS;
 use protocol::Base;
 use protocol::IDLE;
 use protocol::Link;
+use soundness::refusals::setting_refusal;
 ghost use mathlib.Core.Path.{_≡_};
 ghost use Rattle.protocol.specs.Sound.{idleBase};
-ghost use Rattle.soundness.specs.Made.{madeOf};
+ghost use Rattle.idle.specs.Made.{madeOf};
 
 // A record, beside the number by which it is turned down, 0 for none; it is then that of no base.
 #[repr(C)]

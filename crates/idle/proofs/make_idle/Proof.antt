@@ -1,16 +1,16 @@
--- `soundness::idle::make_idle` meets its contract. Where no number is given, n and t are small.
+-- `idle::make_idle` meets its contract. Where no number is given, n and t are small.
 use Prim.Native.Nat.{ℕ}
 use mathlib.Core.Path.{sym, ap₂, _∙_}
 use native.Mathlib.Omega.{arith}
 use borrow.Author.Tests.{eq-eqb, ne-eqb}
 use borrow.Author.Needs.{needs}
-use Rattle.soundness.specs.Made.{madeOf}
-use Rattle.soundness.specs.declared.idle.Made.{Made}
+use Rattle.idle.specs.Made.{madeOf}
+use Rattle.idle.specs.declared.Made.{Made}
 use Rattle.protocol.specs.Sound.Laws.{setting-passed}
 use Rattle.protocol.specs.declared.Base.{Base}
 use Rattle.lists.specs.Choice.Laws.{chosen-yes, chosen-no}
-use Rattle.soundness.proofs.idle.make_idle.Statement.{statement}
-use Rattle.soundness.proofs.idle.make_idle.Tie as tie
+use Rattle.idle.proofs.make_idle.Statement.{statement}
+use Rattle.idle.proofs.make_idle.Tie as tie
 
 made : ℕ → Base → Made
 made r b = record { refusal = r; base = b }

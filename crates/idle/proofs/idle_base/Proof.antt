@@ -1,8 +1,8 @@
--- `soundness::idle::idle_base` meets its contract: field by field.
+-- `idle::idle_base` meets its contract: field by field.
 use mathlib.Core.Path.{refl}
 use Rattle.protocol.specs.Sound.{idleBase}
-use Rattle.soundness.proofs.idle.idle_base.Statement.{statement}
-use Rattle.soundness.proofs.idle.idle_base.Tie as tie
+use Rattle.idle.proofs.idle_base.Statement.{statement}
+use Rattle.idle.proofs.idle_base.Tie as tie
 
 returns : tie.Need-returns
 unfolding idleBase

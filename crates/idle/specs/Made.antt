@@ -3,7 +3,7 @@ use Prim.Native.Nat.{ℕ}
 use lib.Dec.{eqb}
 use Rattle.lists.specs.Choice.{choose}
 use Rattle.protocol.specs.Sound.{settingRefusal, idleBase}
-use Rattle.soundness.specs.declared.idle.Made.{Made}
+use Rattle.idle.specs.declared.Made.{Made}
 
 -- where it is turned down, the record is that of no base: all zero
 unfoldable pub madeOf : ℕ → ℕ → ℕ → Made

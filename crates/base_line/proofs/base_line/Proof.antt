@@ -1,4 +1,4 @@
--- `report::base_line` meets its contract: where there is room for any line, the word, the number, the state and the line feed.
+-- `base_line::base_line` meets its contract: where there is room for any line, the word, the number, the state and the line feed.
 use native.Mathlib.Omega.{arith}
 use borrow.Author.Needs.{needs}
 use borrow.Author.Tests.{leb-true, not-true, not-false}
@@ -10,8 +10,8 @@ use Rattle.print.specs.Decimal.{fieldText}
 use Rattle.print.specs.Decimal.Laws.{few-field}
 use Rattle.print.specs.Put.Laws.{put-fits, put-next, step, fits-put, not-put}
 use Rattle.schedule.specs.Report.{lineRoom, stateRoom, numberDigits, feed, baseText, stateText, baseLine}
-use Rattle.report.proofs.base_line.Statement.{statement}
-use Rattle.report.proofs.base_line.Tie as tie
+use Rattle.base_line.proofs.base_line.Statement.{statement}
+use Rattle.base_line.proofs.base_line.Tie as tie
 
 has-room-requires : tie.Need-has-room-requires
 has-room-requires c κs = search needs
