@@ -24,7 +24,7 @@ pub fn check() -> Result<String, Vec<String>> {
     let sources = [
         ("include/roster.h", header(), table.len()),
         ("crates/limits/src/refusal.rt", constants(), table.len()),
-        ("the trace", rows_of("crates/causes/src/meanings.rt"), table.len()),
+        ("the trace", rows_of("crates/cause_text/src/meanings.rt"), table.len()),
         ("the picture", arms("tools/hillpicture/refusals.rs"), 9),
     ];
     for (source, said, fewest) in sources {

@@ -1,8 +1,8 @@
 // Lines that say the same.
-use crate::forms::kind_of;
-use crate::line::fields_from;
-use crate::line::is_same;
-use crate::line::line_at;
+use line_fields::forms::kind_of;
+use line_fields::line::fields_from;
+use line_fields::line::is_same;
+use line_fields::line::line_at;
 use parts::plus;
 
 // Whether two lines have one word, and are the same from a field on.

@@ -1,8 +1,8 @@
 // What an editor makes of a text or puts before it.
-use crate::cause::Cause;
-use crate::cause::said;
-use crate::sentences;
-use crate::sentences::NONE;
+use cause_text::cause::Cause;
+use cause_text::cause::said;
+use cause_text::sentences;
+use cause_text::sentences::NONE;
 use parts::part;
 use parts::plus;
 use text::word::Word;

@@ -1,31 +1,25 @@
 // Why a line of a schedule is refused, told on standard output: the line as it stands, the number in words, and the cause where there is
 // one to name. A cause is read off the schedule's own bytes.
 mod alike;
-mod bytes;
-mod cause;
 mod encoding;
 mod fields;
 mod form;
-mod forms;
-mod line;
-pub mod meanings;
 mod numbers;
-mod sentences;
-mod tell;
 
-use crate::cause::Cause;
-use crate::cause::counted;
-use crate::cause::said;
 use crate::fields::hex_hint;
 use crate::form::belongs;
 use crate::form::form_cause;
-use crate::forms::kind_of;
-use crate::line::line_at;
 use crate::numbers::number_cause;
-use crate::sentences::ENDS_BEFORE;
-use crate::sentences::FIELD_COUNT;
-use crate::tell::tell;
+use cause_text::cause::Cause;
+use cause_text::cause::counted;
+use cause_text::cause::said;
+use cause_text::sentences;
+use cause_text::sentences::ENDS_BEFORE;
+use cause_text::sentences::FIELD_COUNT;
+use cause_text::tell::tell;
 use limits::refusal::FORM;
+use line_fields::forms::kind_of;
+use line_fields::line::line_at;
 
 // A line that is refused, and what the lines before it have told.
 pub struct RefusedLine {

@@ -1,14 +1,14 @@
 // The causes of numbers 1 to 3 and 14 to 18.
 use crate::RefusedLine;
 use crate::alike::first_alike;
-use crate::cause::Cause;
-use crate::cause::counted;
-use crate::cause::of_field;
-use crate::cause::said;
-use crate::line::value;
-use crate::sentences;
+use cause_text::cause::Cause;
+use cause_text::cause::counted;
+use cause_text::cause::of_field;
+use cause_text::cause::said;
+use cause_text::sentences;
 use limits::most_faulty;
 use limits::refusal;
+use line_fields::line::value;
 
 // The row of no link, of one or of more.
 fn too_many(t: usize) -> Cause {

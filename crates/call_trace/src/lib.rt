@@ -1,0 +1,111 @@
+// What a start or an arrival did, told on standard output: what was heard and broadcast, the figures of the check, and whether the base
+// stops. What it tells are answers of the proved calls on the base as it was before.
+use arrival_text::Arrival;
+use arrival_text::heard;
+use arrival_text::refused;
+use c_answers::CallAnswer;
+use c_answers::outcome_numbers;
+use c_answers::read_numbers;
+use change::changed;
+use check_text::figures;
+use engine::changes::arrive;
+use engine::changes::start;
+use frame::kind::CORRECT_FINAL;
+use leader::leader_of;
+use limits::MOST_BASES;
+use limits::OUTPUT_ROOM;
+use message_text::frames::Caller;
+use message_text::frames::broadcasts;
+use message_text::say;
+use protocol::Base;
+use protocol::IDLE;
+use protocol::PRIME;
+
+fn state_word(state: u8) {
+    if state == PRIME {
+        return output::text(b"prime");
+    }
+    output::text(b"secondary")
+}
+
+// The list and the leader of a base that stops.
+fn stop(b: u8, n: u8, state: u8, list: [u32; MOST_BASES]) {
+    say::base(b, b" stops: ");
+    state_word(state);
+    say::identifiers(list, n as usize);
+    output::text(b" leader ");
+    output::number(leader_of(&list) as usize);
+    output::text(b"\n");
+}
+
+// The check that follows an accepted message.
+fn checked(b: u8, after: Base, burst: &[u8]) {
+    let taken = read_numbers(after.n as usize, burst);
+    let list = taken.ids;
+    if taken.kind < CORRECT_FINAL {
+        figures::prime(b, after);
+    } else {
+        figures::secondary(b, after, list);
+    }
+}
+
+// The stop that may follow the check.
+fn stopped(caller: Caller, after: Base, answer: CallAnswer, frames: &[u8]) {
+    if !caller.stops {
+        return;
+    }
+    let list = after.final_list;
+    broadcasts(caller, answer, true, frames);
+    stop(caller.b, after.n, after.state, list);
+}
+
+// Who makes a call's broadcasts, as it stands behind the call.
+fn caller_of(b: u8, made: usize, after: Base) -> Caller {
+    Caller {
+        b,
+        n: after.n,
+        made,
+        stops: 2 <= after.state,
+    }
+}
+
+// A start at base b, which had made so many broadcasts.
+pub fn start_call(b: u8, base: Base, made: usize) {
+    if base.state != IDLE {
+        return say::base(b, b" has started: discarded\n");
+    }
+    started(b, base, made);
+}
+
+fn started(b: u8, base: Base, made: usize) {
+    let mut frames = [0u8; OUTPUT_ROOM];
+    let change = start(base, &mut frames);
+    let outcome = change.outcome;
+    let answer = outcome_numbers(outcome);
+    say::base(b, b" starts\n");
+    let caller = caller_of(b, made, changed(base, change));
+    broadcasts(caller, answer, false, &frames);
+}
+
+// What a message that was heard led to.
+fn answered(caller: Caller, after: Base, answer: CallAnswer, burst: &[u8], frames: &[u8]) {
+    broadcasts(caller, answer, false, frames);
+    if answer.outcome == 1 {
+        checked(caller.b, after, burst);
+        stopped(caller, after, answer, frames);
+    }
+}
+
+// A burst arrives at base b, which had made so many broadcasts.
+pub fn arrival_call(b: u8, base: Base, made: usize, arrival: Arrival, burst: &[u8]) {
+    let mut frames = [0u8; OUTPUT_ROOM];
+    let change = arrive(base, arrival.link, burst, &mut frames);
+    let outcome = change.outcome;
+    let answer = outcome_numbers(outcome);
+    if answer.outcome == 0 {
+        return refused(b, arrival, burst, answer.refusal);
+    }
+    heard(b, base, arrival, answer.outcome == 1, burst);
+    let after = changed(base, change);
+    answered(caller_of(b, made, after), after, answer, burst, &frames);
+}

@@ -1,0 +1,80 @@
+// A line of a schedule as it stands, and what its event did to the net as it was before.
+pub mod line;
+
+use crate::line::show_line;
+use arrival_text::Arrival;
+use call_trace::arrival_call;
+use call_trace::start_call;
+use event_forms::event_line;
+use hexadecimal::hex_bytes;
+use lines::event::Line;
+use net::StoredNet;
+use net::nodes::node_at;
+use node::log::broadcast;
+use numbering::link_to;
+use parts::part;
+
+// From base a to base b.
+fn arrival_from(a: u8, b: u8, forged: bool) -> Arrival {
+    Arrival {
+        from: a,
+        link: link_to(b, a),
+        forged,
+    }
+}
+
+fn starts(net: StoredNet, b: u8) {
+    let node = node_at(net, b);
+    start_call(b, node.base, node.count);
+}
+
+fn arrives(net: StoredNet, b: u8, arrival: Arrival, burst: &[u8]) {
+    let node = node_at(net, b);
+    arrival_call(b, node.base, node.count, arrival, burst);
+}
+
+// Broadcast k of base a.
+fn carried(net: StoredNet, a: u8, b: u8, k: usize) {
+    let frame = broadcast(node_at(net, a), k);
+    let bytes = frame.bytes;
+    let burst = part(&bytes, 0, frame.len);
+    arrives(net, b, arrival_from(a, b, false), burst);
+}
+
+// A forgery whose bytes stand in the schedule.
+fn forged(s: &[u8], net: StoredNet, a: u8, b: u8, at: usize, count: usize) {
+    let bytes = hex_bytes(s, at, count);
+    let burst = part(&bytes, 0, count);
+    arrives(net, b, arrival_from(a, b, true), burst);
+}
+
+// The line that is next in the net, and what it does.
+pub fn show_event(s: &[u8], net: StoredNet) {
+    let here = net.at;
+    match event_line(net.n, s, here) {
+        Line::Start { base, next } => {
+            show_line(s, here, net.line, next);
+            starts(net, base);
+        }
+        Line::Carry {
+            from,
+            to,
+            number,
+            next,
+        } => {
+            show_line(s, here, net.line, next);
+            carried(net, from, to, number as usize);
+        }
+        Line::Forge {
+            from,
+            to,
+            at,
+            count,
+            next,
+        } => {
+            show_line(s, here, net.line, next);
+            forged(s, net, from, to, at, count);
+        }
+        Line::Wrong => {}
+    }
+}

@@ -1,0 +1,12 @@
+// A line as it stands.
+use parts::between;
+use parts::part;
+
+// `line L: ` and the schedule's own line, which ends before next.
+pub fn show_line(s: &[u8], at: usize, number: usize, next: usize) {
+    output::text(b"line ");
+    output::number(number);
+    output::text(b": ");
+    output::text(part(s, at, between(at, next)));
+    output::text(b"\n");
+}

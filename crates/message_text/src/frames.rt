@@ -1,0 +1,52 @@
+// The frames that a call broadcast.
+use crate::say;
+use c_answers::CallAnswer;
+use parts::part;
+use parts::plus;
+
+// Base b of n, which had made so many broadcasts, and whether it stops.
+pub struct Caller {
+    pub b: u8,
+    pub n: u8,
+    pub made: usize,
+    pub stops: bool,
+}
+
+// A broadcast of base b, by its number.
+fn broadcast(b: u8, n: u8, number: usize, frame: &[u8]) {
+    if frame.len() == 0 {
+        return;
+    }
+    say::base(b, b" broadcasts ");
+    output::number(number);
+    output::text(b": ");
+    say::message(n, frame);
+    output::text(b"\n");
+}
+
+// The length of a frame that is to be shown: one before the check, or else the Correct-Final of a base that stops. Next is the
+// length of the frame behind it.
+fn shown(length: usize, next: usize, stops: bool, last: bool) -> usize {
+    let mut is_last = false;
+    if stops {
+        is_last = next == 0;
+    }
+    if is_last == last {
+        return length;
+    }
+    0
+}
+
+// The frames of a call, before its check or after it.
+pub fn broadcasts(caller: Caller, answer: CallAnswer, last: bool, frames: &[u8]) {
+    let b = caller.b;
+    let n = caller.n;
+    let made = caller.made;
+    let first = shown(answer.first, answer.second, caller.stops, last);
+    broadcast(b, n, plus(made, 1), part(frames, 0, first));
+    let second = shown(answer.second, answer.third, caller.stops, last);
+    broadcast(b, n, plus(made, 2), part(frames, answer.first, second));
+    let third = shown(answer.third, 0, caller.stops, last);
+    let place = plus(answer.first, answer.second);
+    broadcast(b, n, plus(made, 3), part(frames, place, third));
+}

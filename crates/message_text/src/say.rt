@@ -1,0 +1,67 @@
+// Pieces of the trace, written to standard output as they come.
+use c_answers::read_numbers;
+use frame::kind::ANNOUNCE;
+use frame::kind::CORRECT_FINAL;
+use frame::kind::VERIFY;
+use limits::MOST_BASES;
+use output::number;
+use output::text;
+
+fn identifier(g: u32) {
+    text(b" ");
+    number(g as usize);
+}
+
+// `  base B` and words.
+pub fn base(b: u8, words: &[u8]) {
+    text(b"  base ");
+    number(b as usize);
+    text(words);
+}
+
+// `1 byte`, `2 bytes`
+pub fn byte_count(count: usize) {
+    number(count);
+    if count == 1 {
+        return text(b" byte");
+    }
+    text(b" bytes")
+}
+
+// A number, how many are needed, and words.
+pub fn needed(v: usize, asked: usize, words: &[u8]) {
+    number(v);
+    text(b", ");
+    number(asked);
+    text(b" needed");
+    text(words);
+}
+
+// The first count identifiers, each behind a blank.
+pub fn identifiers(ids: [u32; MOST_BASES], count: usize) {
+    let mut i: usize = 0;
+    while i < MOST_BASES {
+        if count <= i {
+            return;
+        }
+        identifier(ids[i]);
+        i += 1;
+    }
+}
+
+fn kind_word(kind: u8) {
+    match kind {
+        ANNOUNCE => text(b"Announce"),
+        VERIFY => text(b"Verify"),
+        CORRECT_FINAL => text(b"Correct-Final"),
+        _ => text(b"Verify-Final"),
+    }
+}
+
+// The message of a burst that is fit.
+pub fn message(n: u8, burst: &[u8]) {
+    let taken = read_numbers(n as usize, burst);
+    let ids = taken.ids;
+    kind_word(taken.kind);
+    identifiers(ids, taken.count);
+}
