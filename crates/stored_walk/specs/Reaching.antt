@@ -25,7 +25,7 @@ use Rattle.net.specs.Abstraction.{noNode, emptyNode, nodeAt, withNode, withNode
 use Rattle.events.specs.declared.Reached.{Reached}
 use Rattle.events.specs.Events.{moved, carriedTo, forgedTo}
 use Rattle.events.specs.Events.Laws.{set-self, reachedNode, reached-stored, start-reaches, carry-reaches, forge-reaches}
-use Rattle.stored_walk.specs.State.{happened}
+use Rattle.stored_walk.specs.State.{lineMoved}
 
 -- the bases that a line names; of a line that has not the form, none
 unfoldable pub senderOf : Line → ℕ
@@ -86,8 +86,8 @@ module _ (w : StoredNet) (few : w .n ≤ mostBases) where
         net = stored
             w (nodePlace (receiverOf x)) (reachedBy s (standing w (senderOf x)) (standing w (receiverOf x)) (faultyOf w) x .node);
       }
-      ≡ happened s w x
-  unfolding senderOf receiverOf reachedBy happened at
+      ≡ lineMoved s w x
+  unfolding senderOf receiverOf reachedBy lineMoved at
   line-is s p (Start b next) T =
       let B = in-net b (T .0) in
       let none : 0 ≡ eventRefusal (faultyOf w) (netOf w) (starts b outputRoom) = unfold eventRefusal in refl in
@@ -110,7 +110,7 @@ module _ (w : StoredNet) (few : w .n ≤ mostBases) where
 pub line-stored : (s : List ℕ) (w : StoredNet) (p : ℕ) (x : Line) {i j : ℕ} {r : Reached}
     → w .n ≤ mostBases → x ≡ eventLine (w .n) s p → j ≡ nodePlace (senderOf x) → i ≡ nodePlace (receiverOf x)
     → r ≡ reachedBy s (getD (w .nodes) j noNode) (getD (w .nodes) i noNode) (faultyOf w) x
-    → record { refusal = r .refusal; net = stored w i (r .node) } ≡ happened s w x
+    → record { refusal = r .refusal; net = stored w i (r .node) } ≡ lineMoved s w x
 line-stored s w p x few ex ej ei er = rw (er, ej, ei) (line-is w few s p x (subst (EventTold (w .n) s p) (sym ex) (event-told (w .n) s p)))
 
 -- the record at a place

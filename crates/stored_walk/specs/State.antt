@@ -88,11 +88,11 @@ unfoldable pub advanced : StoredNet → Moved → ℕ → StoredNet
 advanced p m next = judged replaying (m .refusal) p (onwardNet p (m .net) next)
 
 -- the net, and the number by which a line is turned down
-unfoldable pub happened : List ℕ → StoredNet → Line → Moved
-happened s net (Start b next) = moved net (starts b outputRoom)
-happened s net (Carry a b k next) = moved net (carry a b k outputRoom)
-happened s net (Forge a b at count next) = moved net (forge a b (hexBytes count (drop at s)) outputRoom)
-happened s net Wrong = record { refusal = 13; net = net }
+unfoldable pub lineMoved : List ℕ → StoredNet → Line → Moved
+lineMoved s net (Start b next) = moved net (starts b outputRoom)
+lineMoved s net (Carry a b k next) = moved net (carry a b k outputRoom)
+lineMoved s net (Forge a b at count next) = moved net (forge a b (hexBytes count (drop at s)) outputRoom)
+lineMoved s net Wrong = record { refusal = 13; net = net }
 
 unfoldable pub nextOf : Line → ℕ
 nextOf (Start b next) = next

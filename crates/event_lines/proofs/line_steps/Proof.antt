@@ -14,7 +14,7 @@ use Rattle.net.specs.Abstraction.{faultyOf}
 use Rattle.events.specs.Events.{Moved}
 use Rattle.schedule.specs.Walk.{nextLine, repeat}
 use Rattle.schedule.specs.Walk.Laws.{repeat-none, repeat-more, repeat-done}
-use Rattle.stored_walk.specs.State.{mostLines, HasBytes, refusedNet, onwardNet, happened, replaying, lineAfter}
+use Rattle.stored_walk.specs.State.{mostLines, HasBytes, refusedNet, onwardNet, lineMoved, replaying, lineAfter}
 use Rattle.stored_walk.specs.State.Laws.{line-stays, line-stopped, line-goes-on, line-after, line-refused, line-onward, told-bytes}
 use Rattle.stored_walk.specs.Reaching.{stored, line-stored}
 use Rattle.event_lines.proofs.line_steps.Statement.{statement}
@@ -52,7 +52,7 @@ next-net c = record {
 more : (c : Happened) → ((net c .refusal ≡ 0) × (net c .at < length (text c))) × ((net c .n ≤ mostBases) × (net c .line ≤ mostLines))
 more c = line-goes-on (text c) (net c) (sym (read c .before .before .goes-on .ensures) ∙ not-false _ (read c .before .if1 .left))
 
-happens : (c : Happened) → next-net c ≡ happened (text c) (net c) (read c .event-line .result)
+happens : (c : Happened) → next-net c ≡ lineMoved (text c) (net c) (read c .event-line .result)
 unfolding faultyOf
 happens c =
     let places = c .before .before .before .before .places-of .ensures in

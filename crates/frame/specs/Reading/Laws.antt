@@ -260,8 +260,8 @@ passed-framed n s N e =
 pub list-passed : (ids : List ℕ) → listRefusal ids ≡ 0 → (nonzero ids ≡ true) × (ascending ids ≡ true)
 unfolding listRefusal
 list-passed ids e =
-    let p11 = passed _ 10 _ e in
-    let p12 = passed _ 11 _ (p11 .1) in
+    let p11 = passed _ _ _ e in
+    let p12 = passed _ _ _ (p11 .1) in
     (not-false _ (p11 .0), not-false _ (p12 .0))
 
 -- the last four bytes

@@ -23,12 +23,12 @@ use Rattle.node.specs.Node.{mostBroadcasts, markRoom, inRange, markPlace, logOf
 use Rattle.node.specs.Node.Memory.{SizedNode}
 use Rattle.node.specs.Node.Within.{is-within, within-range}
 use Rattle.net.specs.declared.StoredNet.{StoredNet}
-use Rattle.faulty_links.specs.declared.FaultyLink.{FaultyLink}
 use Rattle.faulty_links.specs.declared.Faulty.{Faulty}
 use Rattle.net.specs.Abstraction.{noNode, emptyNode, nodeAt, withNode, netOf, faultyOf, size}
 use Rattle.faulty_links.specs.Faulty.{pairOf, pairsOf, faultyRoom, noPair, markedFaulty}
 use Rattle.net.specs.Header.{madeNet, namedNet, markedNet}
 use Rattle.representation.specs.Represents.{Represents}
+use Rattle.representation.specs.Represents.Nodes.{map-snoc}
 use Rattle.representation.specs.Represents.Tables.{
   replaced-map,
   net-same,
@@ -134,10 +134,6 @@ represents-named b v least most {w} {n} {t} {faulty} {W} S = record {
     abstracts-now = unfold netOf in net-same _ _ base log carried
 
 -- ---- `faulty a b`
-map-snoc : (pairs : List FaultyLink) (p : FaultyLink) → map pairOf (pairs ++ (p ∷ [])) ≡ map pairOf pairs ++ (pairOf p ∷ [])
-map-snoc [] p = refl
-map-snoc (q ∷ pairs) p = ap (λ (l : List Nets.Pair). pairOf q ∷ l) (map-snoc pairs p)
-
 pub represents-faulty : (a b : ℕ) {w : StoredNet} {n t : ℕ} {faulty : List Nets.Pair} {W : Nets.Net}
     → length faulty < faultyRoom → Represents w n t faulty W
     → Represents (markedNet w a b) n t (faulty ++ (record { one = a; other = b } ∷ [])) W
@@ -186,7 +182,7 @@ represents-faulty a b {w} {n} {t} {faulty} {W} few S = record {
         more-pairs : pairsOf more ≡ pairsOf f ++ (record { one = a; other = b } ∷ [])
         more-pairs = unfold pairsOf in rw (add-one (f .count))
             (ap (map pairOf) (take-suc-set (f .pairs) (f .count) (record { one = a; other = b }) (omega (arith, count, S .sized .pairs)))
-            ∙ map-snoc (take (f .count) (f .pairs)) (record { one = a; other = b })
+            ∙ map-snoc pairOf (take (f .count) (f .pairs)) (record { one = a; other = b })
             ∙ (unfold pairOf in refl))
 
 -- ---- what is counted and printed of it

@@ -14,7 +14,6 @@ use Rattle.lists.specs.Choice.Laws.{choose-yes, choose-ind}
 use Rattle.lists.specs.Lists.Laws.{pad-front}
 use Rattle.frame.specs.Encoding.{encode}
 use Rattle.protocol.specs.Steps.{Done}
-use Rattle.node.specs.declared.Frame.{Frame}
 use Rattle.node.specs.declared.Node.{Node}
 use Rattle.node.specs.Node.{mostBroadcasts, written, logOf, storedFrame, joined, joinedAll, withBase, nodeAfter}
 use Rattle.node.specs.Node.Memory.{SizedNode}
@@ -47,9 +46,9 @@ written-frame : (bytes : List ℕ) → written (storedFrame bytes) ≡ bytes
 unfolding written storedFrame
 written-frame bytes = pad-front longestFrame bytes (length bytes) refl
 
-map-snoc : (frames : List Frame) (f : Frame) → map written (frames ++ (f ∷ [])) ≡ map written frames ++ (written f ∷ [])
-map-snoc [] f = refl
-map-snoc (g ∷ frames) f = ap (λ (l : List (List ℕ)). written g ∷ l) (map-snoc frames f)
+pub map-snoc : {A B : Type 0} (f : A → B) (l : List A) (x : A) → map f (l ++ (x ∷ [])) ≡ map f l ++ (f x ∷ [])
+map-snoc f [] x = refl
+map-snoc {B = B} f (y ∷ l) x = ap (λ (k : List B). f y ∷ k) (map-snoc f l x)
 
 count-below : (v : Node) → SizedNode v → length (logOf v) < mostBroadcasts → v .count < mostBroadcasts
 unfolding logOf
@@ -68,7 +67,7 @@ joined-log v bytes Z h = ap logOf (choose-yes _ _ (lt-ltb (v .count) mostBroadca
     }) ≡ logOf v ++ (bytes ∷ [])
     stored = unfold logOf in rw (add-one (v .count))
         (ap (map written) (take-suc-set (v .frames) (v .count) (storedFrame bytes) (omega (arith, count-below v Z h, Z .frames)))
-        ∙ map-snoc (take (v .count) (v .frames)) (storedFrame bytes)
+        ∙ map-snoc written (take (v .count) (v .frames)) (storedFrame bytes)
         ∙ ap (λ (b : List ℕ). map written (take (v .count) (v .frames)) ++ (b ∷ [])) (written-frame bytes))
 
 joined-all-log : (v : Node) (log : List (List ℕ))

@@ -49,7 +49,7 @@ use Rattle.stored_walk.specs.State.{
   onwardNet,
   advanced,
   HasBytes,
-  happened,
+  lineMoved,
   nextOf,
   replaying,
   goesOn,
@@ -96,9 +96,9 @@ pub next-ended : (s : List ℕ) (p : StoredNet) → p .refusal ≡ 0 → length 
 unfolding nextLine unlessRefused
 next-ended s p z h = choose-yes _ _ (eq-eqb (p .refusal) 0 z) ∙ choose-yes _ _ (le-leb (length s) (p .at) h)
 
--- a line does to the net what `happened` says
-line-advances : (s : List ℕ) (x : Line) (p : StoredNet) → lineStep replaying s x p ≡ advanced p (happened s p x) (nextOf x)
-unfolding lineStep eventStep advanced happened nextOf
+-- a line does to the net what `lineMoved` says
+line-advances : (s : List ℕ) (x : Line) (p : StoredNet) → lineStep replaying s x p ≡ advanced p (lineMoved s p x) (nextOf x)
+unfolding lineStep eventStep advanced lineMoved nextOf
 line-advances s (Start b next) p = refl
 line-advances s (Carry a b k next) p = refl
 line-advances s (Forge a b at count next) p = refl
@@ -106,7 +106,7 @@ line-advances s Wrong p = judged-refused p (onwardNet p p 0) refl (λ e. omega a
 
 -- a line: turned down, or gone on from
 line-next : (s : List ℕ) (p : StoredNet) (x : Line) (m : Moved)
-    → p .refusal ≡ 0 → p .at < length s → x ≡ eventLine (p .n) s (p .at) → m ≡ happened s p x
+    → p .refusal ≡ 0 → p .at < length s → x ≡ eventLine (p .n) s (p .at) → m ≡ lineMoved s p x
     → advanced p m (nextOf x) ≡ nextLine replaying s p
 unfolding nextLine unlessRefused
 line-next s p x m z h ex em =
@@ -115,13 +115,13 @@ line-next s p x m z h ex em =
     ∙ sym (choose-yes _ _ (eq-eqb (p .refusal) 0 z) ∙ choose-no _ _ (lt-leb (length s) (p .at) h))
 
 pub line-refused : (s : List ℕ) (p : StoredNet) (x : Line) (m : Moved)
-    → p .refusal ≡ 0 → p .at < length s → x ≡ eventLine (p .n) s (p .at) → m ≡ happened s p x
+    → p .refusal ≡ 0 → p .at < length s → x ≡ eventLine (p .n) s (p .at) → m ≡ lineMoved s p x
     → (m .refusal ≡ 0 → ⊥) → refusedNet (m .refusal) p ≡ nextLine replaying s p
 unfolding advanced
 line-refused s p x m z h ex em n = judged-refused p (onwardNet p (m .net) (nextOf x)) refl n refl ∙ line-next s p x m z h ex em
 
 pub line-onward : (s : List ℕ) (p : StoredNet) (x : Line) (m : Moved)
-    → p .refusal ≡ 0 → p .at < length s → x ≡ eventLine (p .n) s (p .at) → m ≡ happened s p x
+    → p .refusal ≡ 0 → p .at < length s → x ≡ eventLine (p .n) s (p .at) → m ≡ lineMoved s p x
     → m .refusal ≡ 0 → onwardNet p (m .net) (nextOf x) ≡ nextLine replaying s p
 unfolding advanced
 line-onward s p x m z h ex em e = judged-onward p refl e refl ∙ line-next s p x m z h ex em
@@ -167,26 +167,26 @@ unfolding moved after withNode
 moved-n w e = choose-ind (λ (x : StoredNet). x .n ≡ w .n) (eqb (refusal (faultyOf w) (netOf w) e) 0)
     (λ _. choose-ind (λ (x : StoredNet). x .n ≡ w .n) (inRange (at e) mostBases) (λ _. refl) (λ _. refl)) (λ _. refl)
 
-happened-n : (s : List ℕ) (w : StoredNet) (x : Line) → happened s w x .net .n ≡ w .n
-unfolding happened
-happened-n s w (Start b next) = moved-n w (starts b outputRoom)
-happened-n s w (Carry a b k next) = moved-n w (carry a b k outputRoom)
-happened-n s w (Forge a b i count next) = moved-n w (forge a b (hexBytes count (drop i s)) outputRoom)
-happened-n s w Wrong = refl
+lineMoved-n : (s : List ℕ) (w : StoredNet) (x : Line) → lineMoved s w x .net .n ≡ w .n
+unfolding lineMoved
+lineMoved-n s w (Start b next) = moved-n w (starts b outputRoom)
+lineMoved-n s w (Carry a b k next) = moved-n w (carry a b k outputRoom)
+lineMoved-n s w (Forge a b i count next) = moved-n w (forge a b (hexBytes count (drop i s)) outputRoom)
+lineMoved-n s w Wrong = refl
 
 -- a line keeps the number of bases and takes one number at most
-abbrev pub OneLine : StoredNet → StoredNet → Type 0
-OneLine p q = (q .n ≡ p .n) × (q .line ≤ p .line + 1)
+abbrev pub AtMostOneLine : StoredNet → StoredNet → Type 0
+AtMostOneLine p q = (q .n ≡ p .n) × (q .line ≤ p .line + 1)
 
-advanced-one-line : (p : StoredNet) (m : Moved) (next : ℕ) → m .net .n ≡ p .n → OneLine p (advanced p m next)
+advanced-one-line : (p : StoredNet) (m : Moved) (next : ℕ) → m .net .n ≡ p .n → AtMostOneLine p (advanced p m next)
 unfolding advanced judged onwardNet refusedNet
-advanced-one-line p m next e = choose-ind (OneLine p) (eqb (m .refusal) 0) (λ _. (e, omega arith)) (λ _. (refl, omega arith))
+advanced-one-line p m next e = choose-ind (AtMostOneLine p) (eqb (m .refusal) 0) (λ _. (e, omega arith)) (λ _. (refl, omega arith))
 
-pub next-one-line : (s : List ℕ) (p : StoredNet) → OneLine p (nextLine replaying s p)
+pub next-one-line : (s : List ℕ) (p : StoredNet) → AtMostOneLine p (nextLine replaying s p)
 unfolding nextLine unlessRefused
-next-one-line s p = choose-ind (OneLine p) (eqb (p .refusal) 0)
-    (λ _. choose-ind (OneLine p) (leb (length s) (p .at)) (λ _. (refl, omega arith))
-    (λ _. subst (OneLine p) (sym (line-advances s x p)) (advanced-one-line p _ (nextOf x) (happened-n s p x)))) (λ _. (refl, omega arith))
+next-one-line s p = choose-ind (AtMostOneLine p) (eqb (p .refusal) 0)
+    (λ _. choose-ind (AtMostOneLine p) (leb (length s) (p .at)) (λ _. (refl, omega arith))
+    (λ _. subst (AtMostOneLine p) (sym (line-advances s x p)) (advanced-one-line p _ (nextOf x) (lineMoved-n s p x)))) (λ _. (refl, omega arith))
   where
     x : Line
     x = eventLine (p .n) s (p .at)

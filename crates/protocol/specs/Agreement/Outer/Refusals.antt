@@ -25,18 +25,18 @@ use Rattle.protocol.specs.Agreement.Outer.Frames.{frame-at}
 pub carry-names-broadcast : (faulty : List Pair) (W : Net) (a b k room : ℕ) → eventRefusal faulty W (carry a b k room) ≡ 0
     → k ≤ length (W .log a)
 unfolding eventRefusal
-carry-names-broadcast faulty W a b k room e = ltb-false (length (W .log a)) k (or-false _ _ (passed _ 15 _ e .0) .1)
+carry-names-broadcast faulty W a b k room e = ltb-false (length (W .log a)) k (or-false _ _ (passed _ _ _ e .0) .1)
 
 -- and it has a number
 pub carry-has-number : (faulty : List Pair) (W : Net) (a b room : ℕ) → eventRefusal faulty W (carry a b 0 room) ≡ 0 → ⊥
 unfolding eventRefusal
-carry-has-number faulty W a b room e = eqb-false 0 0 (or-false _ _ (passed _ 15 _ e .0) .0) refl
+carry-has-number faulty W a b room e = eqb-false 0 0 (or-false _ _ (passed _ _ _ e .0) .0) refl
 
 -- ---- 18: a forgery that is not turned down is put on a faulty link
 pub forgery-on-faulty-link : (faulty : List Pair) (W : Net) (a b room : ℕ) (bytes : List ℕ)
     → eventRefusal faulty W (forge a b bytes room) ≡ 0 → good faulty a b ≡ false
 unfolding eventRefusal
-forgery-on-faulty-link faulty W a b room bytes e = passed _ 17 _ e .0
+forgery-on-faulty-link faulty W a b room bytes e = passed _ _ _ e .0
 
 -- the frame that it names is the encoding of the message of that number
 pub encoded-at : (W : Net) (a k : ℕ) (log : List Message) → W .log a ≡ map encode log → k < length log
