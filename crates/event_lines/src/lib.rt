@@ -98,15 +98,11 @@ pub fn line_steps(s: &[u8], net: StoredNet, most: usize) -> StoredNet
         if !goes_on(s.len(), after.n, after.at, after.line, after.refusal) {
             return after;
         }
-        let at = after.at;
-        let line = event_line(after.n, s, at);
+        let line = event_line(after.n, s, after.at);
         let places = places_of(line);
         let from = places.from;
         let to = places.to;
-        let sender = after.nodes[from];
-        let receiver = after.nodes[to];
-        let faulty = after.faulty;
-        let reached = happen(s, sender, receiver, faulty, line);
+        let reached = happen(s, after.nodes[from], after.nodes[to], after.faulty, line);
         if reached.refusal != 0 {
             after.refusal = reached.refusal;
             return after;

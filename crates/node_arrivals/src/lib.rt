@@ -37,8 +37,7 @@ pub fn hear_burst(node: Node, link: usize, burst: &[u8], a: u8, k: usize) -> Nod
     if told.refusal != 0 {
         return node;
     }
-    let after = told.node;
-    mark(after, a, k)
+    mark(told.node, a, k)
 }
 
 // A frame arrives, as it was written.

@@ -86,17 +86,17 @@ event-line-requires c κs = tt
 places-of-requires : tie.Need-places-of-requires Inv-loop μ-loop
 places-of-requires c κs = tt
 
-mul-sender : tie.Need-mul-sender Inv-loop μ-loop
-mul-sender c = search needs
+mul-happen : tie.Need-mul-happen Inv-loop μ-loop
+mul-happen c = search needs
 
-element-copy-out-sender : tie.Need-element-copy-out-sender Inv-loop μ-loop
-element-copy-out-sender c = search needs
+element-copy-out-happen : tie.Need-element-copy-out-happen Inv-loop μ-loop
+element-copy-out-happen c = search needs
 
-mul-receiver : tie.Need-mul-receiver Inv-loop μ-loop
-mul-receiver c = search needs
+mul-happen-2 : tie.Need-mul-happen-2 Inv-loop μ-loop
+mul-happen-2 c = search needs
 
-element-copy-out-receiver : tie.Need-element-copy-out-receiver Inv-loop μ-loop
-element-copy-out-receiver c = search needs
+element-copy-out-happen-2 : tie.Need-element-copy-out-happen-2 Inv-loop μ-loop
+element-copy-out-happen-2 c = search needs
 
 happen-requires : tie.Need-happen-requires Inv-loop μ-loop
 happen-requires c κs =
@@ -158,10 +158,10 @@ line-steps-spec =
     returns
     event-line-requires
     places-of-requires
-    mul-sender
-    element-copy-out-sender
-    mul-receiver
-    element-copy-out-receiver
+    mul-happen
+    element-copy-out-happen
+    mul-happen-2
+    element-copy-out-happen-2
     happen-requires
     returns-2
     mul-node

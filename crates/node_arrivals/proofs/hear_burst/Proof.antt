@@ -44,9 +44,9 @@ mark-requires c κs = search needs
 
 returns-3 : tie.Need-returns-3
 returns-3 c =
-    let h = c .before .before .before .before in
+    let h = c .before .before .before in
     burst-heard _ _ _ _ _ (message (h .before .before)) (h .before .identifiers-at .ensures) (h .hear-message .ensures)
-    (c .before .before .if1 .left) (c .mark .ensures)
+    (c .before .if1 .left) (c .mark .ensures)
 
 pub hear-burst-spec : {M : Type 1} → statement M
 hear-burst-spec =
