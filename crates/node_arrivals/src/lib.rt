@@ -34,10 +34,10 @@ pub fn hear_burst(node: Node, link: usize, burst: &[u8], a: u8, k: usize) -> Nod
     };
     let ids = identifiers_at(burst, start, count);
     let told = hear_message(node, link, kind, ids);
-    if told.refusal != 0 {
-        return node;
-    }
     let after = told.node;
+    if told.refusal != 0 {
+        return after;
+    }
     mark(after, a, k)
 }
 
