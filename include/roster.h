@@ -2,10 +2,12 @@
  *
  * docs/HOW-A-BASE-DECIDES.md lists what an integrator has to do, step by step.
  *
- * Linking. libroster_c.a is for x86-64 with the System V calling convention: the stack is aligned to 16 bytes at a call, SSE2 is on, and
- * the 128 bytes below the stack pointer are in use (an interrupt needs a stack of its own). `rt staticlib roster_c` writes it to
- * target/staticlib/; the kit builds for no other machine. It takes memcpy and memset from the platform and nothing else: no other library,
- * no heap, no state of its own. Different records may be used by different threads at the same time.
+ * Linking. A base's calls are in libroster_c.a (`rt staticlib roster_c` writes it to target/staticlib/); roster_replay alone is in
+ * libreplay_c.a (`rt staticlib replay_c`), as a base in the field replays nothing. Neither needs the other, and one program may link both.
+ * They are for x86-64 with the System V calling convention: the stack is aligned to 16 bytes at a call, SSE2 is on, and the 128 bytes
+ * below the stack pointer are in use (an interrupt needs a stack of its own); the kit builds for no other machine. They take memcpy and
+ * memset from the platform and nothing else: no other library, no heap, no state of their own. Different records may be used by different
+ * threads at the same time.
  *
  * What is lent. A call reads and writes what it is lent and nothing else. A record's pointer is never NULL; any other has to be valid for
  * the length given with it, and may be NULL where that length is 0. Records and lists of identifiers are aligned as C aligns them; bytes
@@ -199,13 +201,13 @@ roster_taken roster_read(size_t n, const uint8_t *burst, size_t burst_length);
 ROSTER_LOOK_AT
 roster_put roster_write(size_t n, uint8_t kind, const uint32_t *ids, size_t id_count, uint8_t *out, size_t out_length);
 
-/* The report of a schedule, as hillreplay prints it; its length. A schedule that is refused has the report "refused N line L". An
- * output with less than ROSTER_REPORT_ROOM bytes is left alone, and the length is 0. Touches the report's bytes at the front of the
- * output. */
+/* In libreplay_c.a. The report of a schedule, as hillreplay prints it; its length. A schedule that is refused has the report
+ * "refused N line L". An output with less than ROSTER_REPORT_ROOM bytes is left alone, and the length is 0. Touches the report's bytes at
+ * the front of the output. */
 ROSTER_LOOK_AT
 size_t roster_replay(const uint8_t *schedule, size_t schedule_length, uint8_t *out, size_t out_length);
 
-/* The library's ROSTER_VERSION. */
+/* The ROSTER_VERSION of libroster_c.a. */
 ROSTER_LOOK_AT
 uint32_t roster_version(void);
 

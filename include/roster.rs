@@ -1,6 +1,6 @@
-//! libroster_c.a for Rust: the sizes, numbers, records and calls of roster.h, and each call with slices. Bring it in as a module
-//! (`#[path = "include/roster.rs"] mod roster;`, from where that file lies) and link the library
-//! (`rustc --edition 2021 base.rs -L target/staticlib -l static=roster_c`).
+//! libroster_c.a and libreplay_c.a for Rust: the sizes, numbers, records and calls of roster.h, and each call with slices. Bring it in as a
+//! module (`#[path = "include/roster.rs"] mod roster;`, from where that file lies) and link the archive
+//! (`rustc --edition 2021 base.rs -L target/staticlib -l static=roster_c`; who calls [`replay`] adds `-l static=replay_c`).
 //!
 //! What a call does, touches and is turned down by stands in roster.h. tests/layout holds the two files against each other. It needs
 //! `core` alone.
@@ -236,14 +236,14 @@ pub fn write(n: usize, kind: u8, ids: &[u32], out: &mut [u8]) -> Put {
     unsafe { roster_write(n, kind, ids.as_ptr(), ids.len(), out.as_mut_ptr(), out.len()) }
 }
 
-/// The report of a schedule, as hillreplay prints it; its length.
+/// The report of a schedule, as hillreplay prints it; its length. In libreplay_c.a, as every other call is in libroster_c.a.
 #[inline]
 #[must_use]
 pub fn replay(schedule: &[u8], out: &mut [u8]) -> usize {
     unsafe { roster_replay(schedule.as_ptr(), schedule.len(), out.as_mut_ptr(), out.len()) }
 }
 
-/// The library's `VERSION`.
+/// The `VERSION` of libroster_c.a.
 #[inline]
 #[must_use]
 pub fn version() -> u32 {

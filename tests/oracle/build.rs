@@ -1,5 +1,6 @@
-//! Where the proved engine's archive lies. Only the feature `linked` needs it.
-//! `ROSTER_LIB_DIR` names its folder (the repository's target/staticlib if unset) and `ROSTER_LIB` its name between `lib` and `.a`.
+//! Where the proved engine's archives lie. Only the feature `linked` needs them.
+//! `ROSTER_LIB_DIR` names their folder (the repository's target/staticlib if unset) and `ROSTER_LIB` their names, without `lib` and `.a`,
+//! and with a space between them.
 
 use std::env;
 use std::path::PathBuf;
@@ -12,8 +13,10 @@ fn main() {
     }
     let here = PathBuf::from(env::var("CARGO_MANIFEST_DIR").expect("cargo sets CARGO_MANIFEST_DIR"));
     let folder = env::var("ROSTER_LIB_DIR").map_or_else(|_| here.join("../../target/staticlib"), PathBuf::from);
-    let name = env::var("ROSTER_LIB").unwrap_or_else(|_| "roster_c".to_string());
-    println!("cargo:rerun-if-changed={}", folder.join(format!("lib{name}.a")).display());
+    let names = env::var("ROSTER_LIB").unwrap_or_else(|_| "roster_c replay_c".to_string());
     println!("cargo:rustc-link-search=native={}", folder.display());
-    println!("cargo:rustc-link-lib=static={name}");
+    for name in names.split_whitespace() {
+        println!("cargo:rerun-if-changed={}", folder.join(format!("lib{name}.a")).display());
+        println!("cargo:rustc-link-lib=static={name}");
+    }
 }

@@ -12,7 +12,6 @@ use protocol::Outcome;
 use protocol::RUNNING;
 use reader::Reading;
 use reader::read;
-use settling::accepted_at;
 use soundness::refusals::place_refusal;
 use soundness::refusals::record_refusal;
 use soundness::refusals::start_refusal;
@@ -63,7 +62,7 @@ pub fn hear(base: Base, link: usize, kind: u8, ids: [u32; MOST_BASES], out: &mut
         return refused(base, number);
     }
     let i = link - 1;
-    step(base, i, accepted_at(base, i, kind, ids), kind, ids, out)
+    step(base, i, kind, ids, out)
 }
 
 // A burst arrives on a link, 1 to n - 1. Turned down by 1 to 12.
@@ -85,7 +84,7 @@ pub fn arrive(base: Base, link: usize, burst: &[u8], out: &mut [u8]) -> Change
             start: _,
         } => {
             let ids = identifiers(body(n, burst));
-            step(base, i, accepted_at(base, i, kind, ids), kind, ids, out)
+            step(base, i, kind, ids, out)
         }
     }
 }

@@ -34,10 +34,11 @@ pub fn hear_burst(node: Node, link: usize, burst: &[u8], a: u8, k: usize) -> Nod
     };
     let ids = identifiers_at(burst, start, count);
     let told = hear_message(node, link, kind, ids);
+    let after = told.node;
     if told.refusal != 0 {
-        return node;
+        return after;
     }
-    mark(told.node, a, k)
+    mark(after, a, k)
 }
 
 // A frame arrives, as it was written.

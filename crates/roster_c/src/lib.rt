@@ -1,4 +1,4 @@
-// The calls as C sees them (include/roster.h): records lent by pointer, slices as pointer and length, answers as numbers.
+// The calls on a base as C sees them (include/roster.h): records lent by pointer, slices as pointer and length, answers as numbers.
 use c_answers::CallAnswer;
 use c_answers::LeaderAnswer;
 use c_answers::ReadAnswer;
@@ -7,6 +7,7 @@ use c_answers::leader_numbers;
 use c_answers::outcome_numbers;
 use c_answers::read_numbers;
 use c_answers::written_numbers;
+use change::Change;
 use change::changed;
 use idle::Made;
 use protocol::Base;
@@ -16,9 +17,8 @@ ghost use Rattle.writer.specs.Writing.{writtenOf, writeOutput};
 ghost use Rattle.decoding.specs.Decoding.{idArray};
 ghost use Rattle.reader.specs.Answers.{readingOf, stretch};
 ghost use Rattle.protocol.specs.Steps.{arrival, start, leaderAnswer};
-ghost use Rattle.change.specs.Change.{DoesAs};
+ghost use Rattle.change.specs.Change.{changedBase, DoesAs};
 ghost use Rattle.idle.specs.Made.{madeOf};
-ghost use Rattle.schedule.specs.Report.{replayLength, replayOutput};
 ghost use Rattle.roster_c.specs.Version.{version};
 ghost use Rattle.c_answers.specs.Numbers.{outcomeNumbers, leaderNumbers, writtenNumbers, readNumbers};
 
@@ -33,6 +33,14 @@ pub extern "C" fn roster_idle(n: usize, t: usize, own: u32) -> Made
     idle::make_idle(n, t, own)
 }
 
+// The change that a call of the engine answers with is made where the record lies; its answer in numbers.
+fn stored(base: &mut Base, change: Change) -> CallAnswer
+    ensures { λ r. ⌜ (r ≡ outcomeNumbers (change .outcome)) × (now (base .exit) ≡ changedBase (now (base .entry)) change) ⌝ }
+{
+    *base = changed(*base, change);
+    outcome_numbers(change.outcome)
+}
+
 // Starts an idle base. Turned down by 1 to 4 and 6.
 #[no_mangle]
 pub extern "C" fn roster_start(base: &mut Base, out: &mut [u8]) -> CallAnswer
@@ -40,8 +48,7 @@ pub extern "C" fn roster_start(base: &mut Base, out: &mut [u8]) -> CallAnswer
         (now (base .exit)) (now (out .entry)) (now (out .exit)) ⌝ }
 {
     let started = engine::changes::start(*base, out);
-    *base = changed(*base, started);
-    outcome_numbers(started.outcome)
+    stored(base, started)
 }
 
 // A burst arrives on a link, 1 to n - 1. Turned down by 1 to 12.
@@ -56,8 +63,7 @@ pub extern "C" fn roster_arrive(
         (now (base .exit)) (now (out .entry)) (now (out .exit)) ⌝ }
 {
     let arrived = engine::changes::arrive(*base, link, burst, out);
-    *base = changed(*base, arrived);
-    outcome_numbers(arrived.outcome)
+    stored(base, arrived)
 }
 
 // The leader that a stopped base names. Turned down by 1 to 4.
@@ -83,15 +89,6 @@ pub extern "C" fn roster_write(n: usize, kind: u8, ids: &[u32], out: &mut [u8]) 
         × (now (out .exit) ≡ writeOutput n kind (now (ids .entry)) (now (out .entry))) ⌝ }
 {
     written_numbers(writer::write(n, kind, ids, out))
-}
-
-// The report of a schedule. An output with less room than any report may take is left alone, and the length is 0.
-#[no_mangle]
-pub extern "C" fn roster_replay(schedule: &[u8], out: &mut [u8]) -> usize
-    ensures { λ r. ⌜ (r ≡ replayLength (now (schedule .entry)) (now (out .entry)))
-        × (now (out .exit) ≡ replayOutput (now (schedule .entry)) (now (out .entry))) ⌝ }
-{
-    replay::replay(schedule, out)
 }
 
 // The version of the header that the library goes with.

@@ -36,15 +36,16 @@ hear-message-requires : tie.Need-hear-message-requires
 hear-message-requires c κs = search needs
 
 returns-2 : tie.Need-returns-2
-returns-2 c = burst-unheard _ _ _ _ _ (message (c .before .before .before .before))
-    (c .before .before .before .identifiers-at .ensures) (c .before .before .hear-message .ensures) (c .if1 .taken)
+returns-2 c =
+    let h = c .before .before .before in
+    burst-unheard _ _ _ _ _ (message (h .before .before)) (h .before .identifiers-at .ensures) (h .hear-message .ensures) (c .if1 .taken)
 
 mark-requires : tie.Need-mark-requires
 mark-requires c κs = search needs
 
 returns-3 : tie.Need-returns-3
 returns-3 c =
-    let h = c .before .before .before in
+    let h = c .before .before .before .before in
     burst-heard _ _ _ _ _ (message (h .before .before)) (h .before .identifiers-at .ensures) (h .hear-message .ensures)
     (c .before .if1 .left) (c .mark .ensures)
 

@@ -17,7 +17,7 @@ use Rattle.reader.specs.Answers.Laws.{reading-refused}
 use Rattle.reader.specs.Answers.Place.{body-there}
 use Rattle.protocol.specs.Sound.Laws.{record-passed}
 use Rattle.protocol.specs.Steps.{arrival, arrivalRefusal}
-use Rattle.protocol.specs.Steps.Answers.{arrival-number}
+use Rattle.protocol.specs.Steps.Answers.{arrival-number, arrival-refused}
 use Rattle.protocol.specs.Net.{callRefusal}
 use Rattle.engine.specs.Hearing.{messageArrival}
 use Rattle.engine.specs.Hearing.Bursts.{read-heard}
@@ -25,6 +25,7 @@ use Rattle.node.specs.declared.Node.{Node}
 use Rattle.node.specs.Node.{marked, nodeAfter}
 use Rattle.node_calls.specs.declared.Told.{Told}
 use Rattle.node_calls.specs.Calls.{told}
+use Rattle.node_calls.specs.Calls.Laws.{after-unchanged}
 use Rattle.node_arrivals.specs.Arrivals.{heardBurst}
 
 module _ (u : Node) (link : ℕ) (bytes : List ℕ) (a k : ℕ) where
@@ -58,9 +59,12 @@ module _ (u : Node) (link : ℕ) (bytes : List ℕ) (a k : ℕ) where
     unfolding told
     its-node = ap (λ (x : Told). x .node) is-told
 
-    pub burst-unheard : t .refusal ≢ 0 → u ≡ heardBurst u link bytes a k
+    -- a call that is turned down leaves the base as it was
+    pub burst-unheard : t .refusal ≢ 0 → t .node ≡ heardBurst u link bytes a k
     unfolding heardBurst
-    burst-unheard some = chosen-no _ (ne-eqb _ 0 (λ z. some (its-number ∙ z))) refl
+    burst-unheard some =
+        let n : callRefusal (arrival (u .base) link bytes outputRoom .answer) ≢ 0 = λ z. some (its-number ∙ z) in
+        chosen-no _ (ne-eqb _ 0 n) (its-node ∙ after-unchanged u _ (arrival-refused (u .base) link bytes outputRoom n))
 
     pub burst-heard : t .refusal ≡ 0 → {m : Node} → m ≡ marked (t .node) a k → m ≡ heardBurst u link bytes a k
     unfolding heardBurst

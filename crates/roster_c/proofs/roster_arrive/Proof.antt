@@ -1,5 +1,5 @@
--- `roster_c::roster_arrive` meets its contract: a walk of its MIR, by hand. The record is loaded, the change is made on it, and what that
--- gives is stored where the record lies.
+-- `roster_c::roster_arrive` meets its contract: a walk of its MIR, by hand. The record is loaded and lent to the engine, and what
+-- that answers with is handed to `stored`, with the loan of the record.
 use mathlib.Core.Path.{_≡_, refl, ap, _∙_}
 use mathlib.Core.List.{[], _∷_}
 use lib.ListN.{length}
@@ -13,9 +13,9 @@ use prog.Wp.{Heap, Calls, Loops, WpFn}
 use ghost.Atoms.{Atoms}
 use contract.Monad.{Fun, factI}
 use contract.Running.{givenOf, tables}
-use types.Kit.{Given, _$_, !, move, drop, fjoin}
-use types.Run.{look, look-raw, store, store-raw, init, stop, hop, from, load, addr, fld, of-opd}
-use types.Run.{land, and-then, no-more, assigns, returns, params1, pass1, pass0}
+use types.Kit.{Given, _$_, !, move, fjoin}
+use types.Run.{look, look-raw, init, stop, hop, from, load, addr, fld, of-opd}
+use types.Run.{and-then, no-more, returns, params1, pass1, pass0}
 use types.Part.{agg, whole, sub, look-in}
 use sound.WpLaws.{FmC}
 use denote.Builtin.{u8}
@@ -33,18 +33,14 @@ use Rattle.engine.proofs.changes.arrive as call
 use Rattle.engine.proofs.changes.arrive.Symbol as call-def
 use Rattle.engine.proofs.changes.arrive.Symbol.{name as #engine·changes·arrive}
 use Rattle.engine.proofs.changes.arrive.Met as call-thm
-use Rattle.change.proofs.changed as changing
-use Rattle.change.proofs.changed.Symbol as changing-def
-use Rattle.change.proofs.changed.Symbol.{name as #change·changed}
-use Rattle.change.proofs.changed.Met as changing-thm
-use Rattle.c_answers.proofs.outcome_numbers as numbers
-use Rattle.c_answers.proofs.outcome_numbers.Symbol as numbers-def
-use Rattle.c_answers.proofs.outcome_numbers.Symbol.{name as #c-answers·outcome-numbers}
-use Rattle.c_answers.proofs.outcome_numbers.Met as numbers-thm
+use Rattle.roster_c.proofs.stored as stored
+use Rattle.roster_c.proofs.stored.Symbol as stored-def
+use Rattle.roster_c.proofs.stored.Symbol.{name as #roster-c·stored}
+use Rattle.roster_c.proofs.stored.Met as stored-thm
 use Rattle.walks.proofs.Locals.{enters, held, field-of, sets, puts, free-all}
-use Rattle.walks.proofs.Plain.{typed, slice-typed, takes, gets, lent, opened, closed, settles}
+use Rattle.walks.proofs.Plain.{typed, slice-typed, takes, gets, lent, opened, hands, comes-back}
 use Rattle.walks.proofs.Calls.{triple, calls-by, ends-by, meets-by, proved}
-use Rattle.roster_c.proofs.Types.{base-type, change-type, outcome-type, call-answer-type, outcome-of}
+use Rattle.roster_c.proofs.Types.{base-type, change-type, call-answer-type}
 use Rattle.roster_c.proofs.roster_arrive.Key.{name as #roster-arrive}
 use Rattle.roster_c.proofs.roster_arrive as f
 use Rattle.roster_c.proofs.roster_arrive.Statement as stated
@@ -53,8 +49,7 @@ use Rattle.roster_c.proofs.roster_arrive.Code as code
 module _ {M : Type 1} (𝓤 : URA M) (H : Heap 𝓤) (A : Atoms 𝓤) (W : Given 𝓤 H A) (at : Memory → SProp 𝓤) (run : Routine → Fun 𝓤)
     (C : Calls 𝓤 H) (Λ : Loops 𝓤 H) (fm : FmC 𝓤 H (W .laws) C)
     (call-known : Triple 𝓤 (C #engine·changes·arrive) (triple 𝓤 H A call.ended (call.clauses 𝓤 H A at run)))
-    (changing-known : Triple 𝓤 (C #change·changed) (triple 𝓤 H A changing.ended (changing.clauses 𝓤 H A at run)))
-    (numbers-known : Triple 𝓤 (C #c-answers·outcome-numbers) (triple 𝓤 H A numbers.ended (numbers.clauses 𝓤 H A at run))) where
+    (stored-known : Triple 𝓤 (C #roster-c·stored) (triple 𝓤 H A stored.ended (stored.clauses 𝓤 H A at run))) where
   meets : Meets 𝓤 H A f.signature (WpFn 𝓤 H C Λ code.function) (f.spec 𝓤 H A at run)
   meets = meets-by 𝓤 H A W f.ended
       (f.clauses 𝓤 H A at run) (WpFn 𝓤 H C Λ code.function) (λ κs. (ptr-vals, (uint-vals w64, (slice-vals, (slice-vals, tt)))))
@@ -85,37 +80,27 @@ module _ {M : Type 1} (𝓤 : URA M) (H : Heap 𝓤) (A : Atoms 𝓤) (W : Given
       (λ c ws. Does (b .now) d c (o .now) (ws .1 .1 .1 .0)) (λ c ws. id⊢ 𝓤 _) (λ v c ws e. takes ! change-type c v (λ is.
       -- [the last values; the other tokens; the cell; the open borrow; obs; auth; _9; …]
       puts ! 14 refl (typed W change-type c is .0) $
-      sets ! (of-opd ! (load ! (from ! (hop ! (look ! 22 refl) (stop !))) (look-raw ! 2 refl)))
-      6 refl (typed W base-type (b .now) was .0) $
-      nothing ! $ gets ! change-type c is $ fjoin ! $ gets ! base-type (b .now) was $ fjoin ! $ nothing ! $
-      calls-by ! fm changing.ended (changing.clauses 𝓤 H A at run) changing-known tt tt tt (b .now, (c, tt))
-      (base-type .val (b .now) ∷ [], (change-type .val c ∷ [], tt)) tt (id⊢ 𝓤 _)
-      (and-then ! (held ! 7 refl) (and-then ! (held ! 15 refl) (no-more !)))
-      (λ x us. x ≡ changedBase (b .now) c) (λ x us. id⊢ 𝓤 _) (λ u x us m. takes ! base-type x u (λ now.
-      -- [no last value; no token; the last values; the other tokens; the cell; the open borrow; obs; auth; _9; …]
-      land ! (from ! (stop !)) (store ! 14 refl (typed W base-type x now .0)) $ drop ! $ drop ! $
-      assigns ! (of-opd ! (held ! 12 refl)) (from ! (hop ! (look ! 22 refl) (stop !)))
-      (store-raw ! 2 refl (typed W base-type x now .0)) $
-      nothing ! $ gets ! outcome-type (c .outcome) (outcome-of c is) $ fjoin ! $ nothing ! $
-      calls-by ! fm numbers.ended (numbers.clauses 𝓤 H A at run) numbers-known tt tt tt (c .outcome, tt)
-      (outcome-type .val (c .outcome) ∷ [], tt) tt (id⊢ 𝓤 _) (and-then ! (field-of ! 15 refl (sub ! 0 refl (whole !))) (no-more !))
-      (λ a us. a ≡ outcomeNumbers (c .outcome)) (λ a us. id⊢ 𝓤 _) (λ w a us n. takes ! call-answer-type a w (λ its.
-      puts ! 26 refl (typed W call-answer-type a its .0) $ drop ! $ drop ! $
-      move ! (2 ∷ 3 ∷ 4 ∷ 5 ∷ []) $ closed ! tt base-type b x now $
-      returns ! (look ! 23 refl) $ free-all ! (_ ∷ _ ∷ _ ∷ _ ∷ _ ∷ []) (_ ∷ _ ∷ _ ∷ _ ∷ _ ∷ _ ∷ _ ∷ _ ∷ _ ∷ _ ∷ []) [] $
-      -- [obs; the borrow; its token; the last values; the other tokens]
-      settles ! $ gets ! call-answer-type a its $ move ! (1 ∷ 0 ∷ []) $
-      ends-by ! f.ended (f.clauses 𝓤 H A at run) y (ptr-vals b, (vint w64 link ∷ [], (slice-vals burst, (slice-vals o, tt)))) _ a (x, ws .1)
+      sets ! (addr ! (from ! (hop ! (look ! 22 refl) (stop !)))) 6 refl (tt, tt) $
+      move ! (2 ∷ 3 ∷ 4 ∷ 5 ∷ []) $ nothing ! $ gets ! change-type c is $ fjoin ! $ hands ! tt base-type b was $
+      -- [the loan's token; the loan and the change; the last values; the other tokens; _9; …]
+      calls-by ! fm stored.ended (stored.clauses 𝓤 H A at run) stored-known (y .0 .0 .0, tt) (y .0 .1 .0, tt) tt (b, (c, tt))
+      (ptr-vals b, (change-type .val c ∷ [], tt)) tt (id⊢ 𝓤 _) (and-then ! (held ! 3 refl) (and-then ! (held ! 11 refl) (no-more !)))
+      (λ a us. (a ≡ outcomeNumbers (c .outcome)) × (us .0 ≡ changedBase (b .now) c)) (λ a us. id⊢ 𝓤 _) (λ w a us n.
+      takes ! call-answer-type a w (λ its.
+      -- [the record's last value; its token; the last values; the other tokens; _9; …]
+      puts ! 22 refl (typed W call-answer-type a its .0) $ returns ! (look ! 22 refl) $
+      free-all ! (_ ∷ _ ∷ _ ∷ _ ∷ []) (_ ∷ _ ∷ _ ∷ _ ∷ _ ∷ _ ∷ _ ∷ _ ∷ _ ∷ _ ∷ []) [] $
+      comes-back ! $ gets ! call-answer-type a its $ move ! (1 ∷ 0 ∷ []) $
+      ends-by ! f.ended (f.clauses 𝓤 H A at run)
+      y (ptr-vals b, (vint w64 link ∷ [], (slice-vals burst, (slice-vals o, tt)))) _ a (us .0, ws .1)
       (factI 𝓤 _ (emp 𝓤) (record {
-        changes = record { outcome = n ∙ ap outcomeNumbers (e .changes .outcome); base = m ∙ e .changes .base };
+        changes = record { outcome = n .0 ∙ ap outcomeNumbers (e .changes .outcome); base = n .1 ∙ e .changes .base };
         written = e .written;
-      })))))))))))
+      })))))))))
 
 pub roster-arrive-spec : {M : Type 1} → stated.statement M
 unfolding code.routine
 roster-arrive-spec 𝓤 H 𝓜 𝓖 𝓡 = proved 𝓤 H 𝓜 𝓖 𝓡 code.env #roster-arrive code.function (code.unfolded 𝓤 H 𝓜 𝓡) _
     (λ fm. meets 𝓤 H (𝓖 .A) (givenOf 𝓤 H 𝓜 𝓖) (𝓜 .mem) (𝓡 .run) (tables 𝓤 H 𝓜 𝓡 code.env .C) (tables 𝓤 H 𝓜 𝓡 code.env .Λ) fm
     (cited 𝓤 H _ 𝓜 𝓡 code.env #engine·changes·arrive call-def.routine code.calls-engine·changes·arrive (call-thm.met 𝓤 H 𝓜 𝓖 𝓡))
-    (cited 𝓤 H _ 𝓜 𝓡 code.env #change·changed changing-def.routine code.calls-change·changed (changing-thm.met 𝓤 H 𝓜 𝓖 𝓡))
-    (cited 𝓤 H _ 𝓜 𝓡 code.env
-    #c-answers·outcome-numbers numbers-def.routine code.calls-c-answers·outcome-numbers (numbers-thm.met 𝓤 H 𝓜 𝓖 𝓡)))
+    (cited 𝓤 H _ 𝓜 𝓡 code.env #roster-c·stored stored-def.routine code.calls-roster-c·stored (stored-thm.met 𝓤 H 𝓜 𝓖 𝓡)))

@@ -1,5 +1,5 @@
 -- `stepping::step` meets its contract, state by state.
-use Rattle.stepping.specs.Stepping.Laws.{step-stopped, step-running, step-idle}
+use Rattle.stepping.specs.Stepping.Laws.{step-stopped, step-running, step-idle, accepted-as}
 use Rattle.protocol.specs.Steps.{withState}
 use Rattle.protocol.specs.Sound.{idle, stopped}
 use borrow.Author.Tests.{le-leb, lt-leb, eq-eqb, ne-eqb}
@@ -13,8 +13,11 @@ discarded-requires c κs = search needs
 returns : tie.Need-returns
 unfolding stopped withState
 returns c = let a = c .before .before .before .before .args in
-    step-stopped (a .base) (a .i) (a .accepted) (a .kind) (a .ids) (a .out .now) _
+    step-stopped (a .base) (a .i) _ (a .kind) (a .ids) (a .out .now) _
     (le-leb 2 _ (c .before .if1 .taken)) (c .discarded .ensures)
+
+accepted-at-requires : tie.Need-accepted-at-requires
+accepted-at-requires c κs = search needs
 
 decided-requires : tie.Need-decided-requires
 decided-requires c κs = search needs
@@ -27,10 +30,16 @@ same-length c = search needs
 
 returns-2 : tie.Need-returns-2
 unfolding idle stopped
-returns-2 c = let d = c .before .before .before .before .before .before in let w = c .before .before .told .ensures in
-    let a = d .before .before .before .before .args in
-    step-running (a .base) (a .i) (a .accepted) (a .kind) (a .ids) (a .out .now) _
-    (lt-leb 2 _ (d .before .if1 .left)) _ (d .decided .ensures) _ (ne-eqb _ 0 (c .before .before .before .before .if2 .taken)) (w .0) (w .1)
+returns-2 c = let d = c .before .before .before .before in let h = d .before in let e = h .before .before in
+    let w = c .before .before .told .ensures in let a = e .before .before .before .before .args in
+    accepted-as (h .accepted-at .ensures) (step-running (a .base) (a .i) _ (a .kind) (a .ids) (a .out .now) _
+    (lt-leb 2 _ (e .before .if1 .left)) _ (d .decided .ensures) _ (ne-eqb _ 0 (h .before .if2 .taken)) (w .0) (w .1))
+
+accepted-at-requires-2 : tie.Need-accepted-at-requires-2
+accepted-at-requires-2 c κs = search needs
+
+decided-requires-2 : tie.Need-decided-requires-2
+decided-requires-2 c κs = search needs
 
 told-first-requires : tie.Need-told-first-requires
 told-first-requires c κs = search needs
@@ -40,10 +49,10 @@ same-length-2 c = search needs
 
 returns-3 : tie.Need-returns-3
 unfolding idle stopped
-returns-3 c = let d = c .before .before .before .before .before .before in let w = c .before .before .told-first .ensures in
-    let a = d .before .before .before .before .args in
-    step-idle (a .base) (a .i) (a .accepted) (a .kind) (a .ids) (a .out .now) _
-    (lt-leb 2 _ (d .before .if1 .left)) _ (d .decided .ensures) _ (eq-eqb _ 0 (c .before .before .before .before .if2 .left)) (w .0) (w .1)
+returns-3 c = let d = c .before .before .before .before in let h = d .before in let e = h .before .before in
+    let w = c .before .before .told-first .ensures in let a = e .before .before .before .before .args in
+    accepted-as (h .accepted-at2 .ensures) (step-idle (a .base) (a .i) _ (a .kind) (a .ids) (a .out .now) _
+    (lt-leb 2 _ (e .before .if1 .left)) _ (d .decided2 .ensures) _ (eq-eqb _ 0 (h .before .if2 .left)) (w .0) (w .1))
 
 pub step-spec : {M : Type 1} → statement M
 step-spec =
@@ -51,10 +60,13 @@ step-spec =
     (tie.spec
     discarded-requires
     returns
+    accepted-at-requires
     decided-requires
     told-requires
     same-length
     returns-2
+    accepted-at-requires-2
+    decided-requires-2
     told-first-requires
     same-length-2
     returns-3)

@@ -1,6 +1,6 @@
 -- What the code does in each state is the step.
 use Prim.Native.Nat.{ℕ}
-use mathlib.Core.Path.{_≡_, sym, ap, _∙_}
+use mathlib.Core.Path.{_≡_, sym, ap, subst, _∙_}
 use mathlib.Core.Bool.{true, false}
 use mathlib.Core.List.{List}
 use lib.ListN.{length}
@@ -17,6 +17,11 @@ use Rattle.deciding.specs.declared.Decision.{Decision}
 use Rattle.settling.specs.Settling.{withinLinks, decidedAt, toldFrames, toldChange}
 use Rattle.starting.specs.Starting.{firstFrames, firstChange}
 use Rattle.stepping.specs.Stepping.{unstoppedChange, unstoppedFrames, stepOutcome, stepBase, stepFrames, Steps}
+
+-- with the same accepted
+pub accepted-as : {b : Base} {i kind : ℕ} {ids output after : List ℕ} {r : Change} {x y : Accepted} → x ≡ y
+    → Steps b i x kind ids r output after → Steps b i y kind ids r output after
+accepted-as {b} {i} {kind} {ids} {output} {after} {r} e = subst (λ (x : Accepted). Steps b i x kind ids r output after) e
 
 module _ (b : Base) (i : ℕ) (a : Accepted) (kind : ℕ) (ids output : List ℕ) (r : Change) where
   pub step-stopped : stopped b ≡ true → ChangeOf b (discards b) r → Steps b i a kind ids r output output

@@ -9,7 +9,7 @@ use Rattle.decoding.specs.Decoding.{idArray}
 use Rattle.decoding.specs.Decoding.Laws.{length-array}
 use Rattle.protocol.proofs.Sizes.{base-sized}
 use lib.ListN.{length}
-use mathlib.Core.Path.{_≡_, sym, ap, _∙_}
+use mathlib.Core.Path.{_≡_, refl, sym, ap, _∙_}
 use borrow.Author.Needs.{needs}
 use Rattle.engine.proofs.changes.arrive.Statement.{statement}
 use Rattle.engine.proofs.changes.arrive.Tie as tie
@@ -61,9 +61,6 @@ body-requires c κs = search needs
 identifiers-requires : tie.Need-identifiers-requires
 identifiers-requires c κs = search needs
 
-accepted-at-requires : tie.Need-accepted-at-requires
-accepted-at-requires c κs = search needs
-
 step-requires : tie.Need-step-requires
 step-requires c κs = search needs
 
@@ -78,7 +75,7 @@ same-length c = search needs
 
 returns-3 : tie.Need-returns-3
 returns-3 c =
-    let w = c .before .before .before .before .before in let k = w .before .before in let one = k .before .before .before .before .before in
+    let w = c .before .before .before .before in let k = w .before .before in let one = k .before .before .before .before .before in
     let s = one .before .before .before .before .before in let a = s .args in
     let p = sym (k .before .before .before .read .ensures) ∙ k .before .kind .given .1 in
     let ids : w .identifiers .result ≡ idArray (stretch (a .base .n) (a .burst .now)) =
@@ -87,7 +84,7 @@ returns-3 c =
     (heard-does (a .base) (a .link) _ _ (a .out .now) _ _ _ (base-sized (a .base) _ (s .good .0))
     (ap length ids ∙ length-array (stretch (a .base .n) (a .burst .now))) (none one)
     (read-passes (a .base) (a .link) (a .burst .now) (length (a .out .now)) _ _ _ p _ ids)
-    (c .before .before .before .before .accepted-at .ensures) (c .before .before .step .ensures))
+    refl (c .before .before .step .ensures))
 
 pub arrive-spec : {M : Type 1} → statement M
 arrive-spec =
@@ -105,7 +102,6 @@ arrive-spec =
     enum-known-kind
     body-requires
     identifiers-requires
-    accepted-at-requires
     step-requires
     returns-2
     same-length

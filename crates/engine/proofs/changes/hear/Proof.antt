@@ -4,7 +4,7 @@ use Rattle.change.specs.Change.Laws.{does-as, refuses-does}
 use Rattle.soundness.specs.Place.{placeRefusal}
 use Rattle.protocol.proofs.Sizes.{base-sized}
 use lib.ListN.{length}
-use mathlib.Core.Path.{_≡_, sym, _∙_}
+use mathlib.Core.Path.{_≡_, refl, sym, _∙_}
 use borrow.Author.Needs.{needs}
 use Rattle.engine.proofs.changes.hear.Statement.{statement}
 use Rattle.engine.proofs.changes.hear.Tie as tie
@@ -46,9 +46,6 @@ returns-2 c = let one = c .before .before .before in let a = one .before .before
 sub-i : tie.Need-sub-i
 sub-i c = place-passed _ _ _ (none (c .before .before)) .some
 
-accepted-at-requires : tie.Need-accepted-at-requires
-accepted-at-requires c κs = search needs
-
 step-requires : tie.Need-step-requires
 step-requires c κs = search needs
 
@@ -57,12 +54,12 @@ same-length c = search needs
 
 returns-3 : tie.Need-returns-3
 returns-3 c =
-    let two = c .before .before .before .before .before in let one = two .before .before in
+    let two = c .before .before .before .before in let one = two .before .before in
     let s = one .before .before .before .before in let a = s .args in
     heard-does (a .base) (a .link) (a .kind) (a .ids) (a .out .now) _ _ _
     (base-sized (a .base) _ (s .good .0)) (s .good .1 .1 .1 .0 .1 .0 .1)
     (none one) (sym (two .before .message-refusal .ensures) ∙ two .if2 .left)
-    (c .before .before .before .before .accepted-at .ensures) (c .before .before .step .ensures)
+    refl (c .before .before .step .ensures)
 
 pub hear-spec : {M : Type 1} → statement M
 hear-spec =
@@ -76,7 +73,6 @@ hear-spec =
     refused-requires-2
     returns-2
     sub-i
-    accepted-at-requires
     step-requires
     same-length
     returns-3)
