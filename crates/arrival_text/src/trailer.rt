@@ -1,8 +1,17 @@
-// What the trailer of a burst that is refused says.
+// What the trailer of a burst that is refused says, where its number is about the trailer.
 use limits::TRAILER_BYTES;
+use limits::frame_bytes;
+use limits::refusal::BACK_DISTANCE;
 use limits::refusal::COUNT;
+use limits::refusal::KIND;
 use output::number;
 use output::text;
+
+fn kind_alone(kind: u8) {
+    text(b" (kind ");
+    number(kind as usize);
+    text(b")");
+}
 
 fn kind_and_count(kind: u8, count: u8) {
     text(b" (kind ");
@@ -12,14 +21,42 @@ fn kind_and_count(kind: u8, count: u8) {
     text(b")");
 }
 
-// Of a burst that is refused for its count: what its trailer says.
-pub(crate) fn shown(refusal: u8, burst: &[u8]) {
-    if refusal != COUNT {
-        return;
+// What it should be; or the burst's length, which it exceeds.
+fn right_distance(back: usize, right: usize, length: usize) {
+    if back == right {
+        text(b", and the burst has ");
+        number(length);
+        return text(b" bytes)");
     }
+    text(b", where ");
+    number(right);
+    text(b" belongs)")
+}
+
+fn back_distance(back: usize, count: u8, length: usize) {
+    text(b" (back distance ");
+    number(back);
+    right_distance(back, frame_bytes(count), length);
+}
+
+fn wide(high: u8, low: u8) -> usize {
+    (high as usize) * 256 + (low as usize)
+}
+
+fn values(refusal: u8, kind: u8, count: u8, back: usize, length: usize) {
+    match refusal {
+        KIND => kind_alone(kind),
+        COUNT => kind_and_count(kind, count),
+        BACK_DISTANCE => back_distance(back, count, length),
+        _ => {}
+    }
+}
+
+pub(crate) fn shown(refusal: u8, burst: &[u8]) {
     if burst.len() < TRAILER_BYTES {
         return;
     }
     let place = burst.len() - TRAILER_BYTES;
-    kind_and_count(burst[place], burst[place + 1]);
+    let back = wide(burst[place + 2], burst[place + 3]);
+    values(refusal, burst[place], burst[place + 1], back, burst.len());
 }

@@ -38,14 +38,22 @@ fn stop(b: u8, n: u8, state: u8, list: [u32; MOST_BASES]) {
     output::text(b"\n");
 }
 
+// The secondary check, at a base that may have sent a Verify-Final before.
+fn list_checked(b: u8, sent: u8, after: Base, kind: u8, list: [u32; MOST_BASES]) {
+    if sent != 0 {
+        figures::sent_before(b, after, kind, list);
+    }
+    figures::secondary(b, after, list);
+}
+
 // The check that follows an accepted message.
-fn checked(b: u8, after: Base, burst: &[u8]) {
+fn checked(b: u8, sent: u8, after: Base, burst: &[u8]) {
     let taken = read_numbers(after.n as usize, burst);
     let list = taken.ids;
     if taken.kind < CORRECT_FINAL {
         figures::prime(b, after);
     } else {
-        figures::secondary(b, after, list);
+        list_checked(b, sent, after, taken.kind, list);
     }
 }
 
@@ -87,11 +95,18 @@ fn started(b: u8, base: Base, made: usize) {
     broadcasts(caller, answer, false, &frames);
 }
 
-// What a message that was heard led to.
-fn answered(caller: Caller, after: Base, answer: CallAnswer, burst: &[u8], frames: &[u8]) {
+// What a message that was heard led to, at a base that had sent so many Verify-Finals.
+fn answered(
+    caller: Caller,
+    sent: u8,
+    after: Base,
+    answer: CallAnswer,
+    burst: &[u8],
+    frames: &[u8],
+) {
     broadcasts(caller, answer, false, frames);
     if answer.outcome == 1 {
-        checked(caller.b, after, burst);
+        checked(caller.b, sent, after, burst);
         stopped(caller, after, answer, frames);
     }
 }
@@ -107,5 +122,6 @@ pub fn arrival_call(b: u8, base: Base, made: usize, arrival: Arrival, burst: &[u
     }
     heard(b, base, arrival, answer.outcome == 1, burst);
     let after = changed(base, change);
-    answered(caller_of(b, made, after), after, answer, burst, &frames);
+    let caller = caller_of(b, made, after);
+    answered(caller, base.sent, after, answer, burst, &frames);
 }

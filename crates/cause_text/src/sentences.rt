@@ -1,7 +1,7 @@
 // What is told of a line that is refused, a row each. In a row `#` stands for a cause's number and `~` for the plural of what it counts,
 // `@` for the name of its field, `&` for the field as it stands and `^` for its value, `%` for the byte of that number, `$` for the form of
 // the line's kind, `*` for the line itself, and `+` for what a refusal of that number means.
-pub const SENTENCES: [u8; 1885] = *b"
+pub const SENTENCES: [u8; 2041] = *b"
 line #: *
   refused by #, +
   the schedule has more than 65,536 bytes
@@ -17,6 +17,8 @@ line #: *
   byte # is %, and a line has signs of ASCII alone
   no line feed stands at the end
   byte # is a space too many
+  byte # is a space at the end of the line, where none may stand
+  @ is missing, and the form is `$`
   the line is empty
   there is no word &, only `net`, `id`, `faulty`, `start`, `carry` and `forge`, in small letters
   the net is named in line 1
@@ -29,14 +31,15 @@ line #: *
   @ is &, with a leading zero
   byte # is %, and hex is in small letters
   byte # is %, and hex has 0 to 9 and a to f
-  hex has more than # bytes
+  hex has # bytes, and at most 132 are allowed
   hex has # digit~, and a byte has two
   @ is &, and the net has bases 1 to #
   a and b are the same base
   k is 0, and broadcasts are numbered from 1
   a is above b, and the smaller base comes first
   line # names that link
-  @ is &, and this is the line of base #
+  @ is &, and here belongs the line of base #
+  line # is the line of base ^
   @ is &, and that base has its line already, line #
   @ is &
   @ is &, and with so many bases t is at most #
@@ -82,61 +85,67 @@ pub const NO_LINE_FEED: usize = 14;
 
 pub const SPACE_TOO_MANY: usize = 15;
 
-pub const EMPTY: usize = 16;
+pub const SPACE_AT_END: usize = 16;
 
-pub const NO_WORD: usize = 17;
+pub const MISSING: usize = 17;
 
-pub const NET_AGAIN: usize = 18;
+pub const EMPTY: usize = 18;
 
-pub const FAULTY_LATE: usize = 19;
+pub const NO_WORD: usize = 19;
 
-pub const FIELD_COUNT: usize = 20;
+pub const NET_AGAIN: usize = 20;
 
-pub const SPACE_BEFORE_HEX: usize = 21;
+pub const FAULTY_LATE: usize = 21;
 
-pub const HEX_TOGETHER: usize = 22;
+pub const FIELD_COUNT: usize = 22;
 
-pub const NOT_DIGITS: usize = 23;
+pub const SPACE_BEFORE_HEX: usize = 23;
 
-pub const TOO_LARGE: usize = 24;
+pub const HEX_TOGETHER: usize = 24;
 
-pub const LEADING_ZERO: usize = 25;
+pub const NOT_DIGITS: usize = 25;
 
-pub const CAPITAL_DIGIT: usize = 26;
+pub const TOO_LARGE: usize = 26;
 
-pub const NO_HEX_DIGIT: usize = 27;
+pub const LEADING_ZERO: usize = 27;
 
-pub const TOO_MANY_BYTES: usize = 28;
+pub const CAPITAL_DIGIT: usize = 28;
 
-pub const ODD_DIGITS: usize = 29;
+pub const NO_HEX_DIGIT: usize = 29;
 
-pub const NO_BASE: usize = 30;
+pub const TOO_MANY_BYTES: usize = 30;
 
-pub const SAME_BASE: usize = 31;
+pub const ODD_DIGITS: usize = 31;
 
-pub const NUMBER_ZERO: usize = 32;
+pub const NO_BASE: usize = 32;
 
-pub const LARGER_FIRST: usize = 33;
+pub const SAME_BASE: usize = 33;
 
-pub const LINK_AGAIN: usize = 34;
+pub const NUMBER_ZERO: usize = 34;
 
-pub const OTHER_BASE: usize = 35;
+pub const LARGER_FIRST: usize = 35;
 
-pub const ID_AGAIN: usize = 36;
+pub const LINK_AGAIN: usize = 36;
 
-pub const WRONG_NUMBER: usize = 37;
+pub const OTHER_BASE: usize = 37;
 
-pub const ABOVE_LIMIT: usize = 38;
+pub const HAS_LINE: usize = 38;
 
-pub const IDENTIFIER_ZERO: usize = 39;
+pub const ID_AGAIN: usize = 39;
 
-pub const IDENTIFIER_AGAIN: usize = 40;
+pub const WRONG_NUMBER: usize = 40;
+
+pub const ABOVE_LIMIT: usize = 41;
+
+pub const IDENTIFIER_ZERO: usize = 42;
+
+pub const IDENTIFIER_AGAIN: usize = 43;
 
 // One link, and more of them, in the rows behind it.
-pub const NONE_FAULTY: usize = 41;
+pub const NONE_FAULTY: usize = 44;
 
-pub const TOO_FEW_BROADCASTS: usize = 44;
+pub const TOO_FEW_BROADCASTS: usize = 47;
 
-pub const CARRY_AGAIN: usize = 45;
+pub const CARRY_AGAIN: usize = 48;
 
-pub const GOOD_LINK: usize = 46;
+pub const GOOD_LINK: usize = 49;

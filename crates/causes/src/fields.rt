@@ -91,11 +91,11 @@ fn hex_digit(line: &[u8]) -> Cause {
 
 // Two digits a byte, as many as a line can forge.
 fn hex_length(length: usize) -> Cause {
-    if 2 * LONGEST_FORGERY < length {
-        return counted(sentences::TOO_MANY_BYTES, LONGEST_FORGERY);
-    }
     if length % 2 == 1 {
         return counted(sentences::ODD_DIGITS, length);
+    }
+    if 2 * LONGEST_FORGERY < length {
+        return counted(sentences::TOO_MANY_BYTES, length / 2);
     }
     said(NONE)
 }
@@ -128,6 +128,18 @@ fn faulty(s: &[u8], line: &[u8]) -> Cause {
         return said(sentences::LARGER_FIRST);
     }
     counted(sentences::LINK_AGAIN, first_alike(s, line, 0))
+}
+
+// Of a base whose line stands before the one that is refused, which line that is.
+pub(crate) fn line_of_base(line: &[u8], number: usize) -> Cause {
+    let b = value(line, 1);
+    if b == 0 {
+        return said(NONE);
+    }
+    if number <= plus(b, 1) {
+        return said(NONE);
+    }
+    of_field(sentences::HAS_LINE, 1, plus(b, 1))
 }
 
 // In the header, or behind it.

@@ -5,6 +5,7 @@ use crate::fields::fields;
 use cause_text::cause::Cause;
 use cause_text::cause::counted;
 use cause_text::cause::of_byte;
+use cause_text::cause::of_field;
 use cause_text::cause::or;
 use cause_text::cause::said;
 use cause_text::sentences;
@@ -20,8 +21,10 @@ use line_fields::forms::FAULTY;
 use line_fields::forms::FORGE;
 use line_fields::forms::ID;
 use line_fields::forms::NET;
+use line_fields::forms::asked;
 use line_fields::line::fields_from;
 use parts::between;
+use parts::part;
 use parts::plus;
 
 // The line of the header that belongs here: of the net, or of base b in line b + 1.
@@ -57,7 +60,17 @@ fn unended(s: &[u8], line: &[u8], at: usize) -> Cause {
     said(sentences::NO_LINE_FEED)
 }
 
-// A space that has no word behind it. Behind `forge a b ` there may be nothing.
+// A space behind which the line ends: a field is missing there, or the space is too many.
+fn end_space(kind: usize, line: &[u8], count: usize) -> Cause {
+    if 0 < kind {
+        if count <= asked(kind) {
+            return of_field(sentences::MISSING, count, 0);
+        }
+    }
+    of_byte(sentences::SPACE_AT_END, line, between(0, line.len()))
+}
+
+// Behind `forge a b ` there may be nothing.
 fn last_space(kind: usize, line: &[u8]) -> Cause {
     let count = spaces(line);
     if 0 < fields_from(line, count).len() {
@@ -68,7 +81,18 @@ fn last_space(kind: usize, line: &[u8]) -> Cause {
             return said(NONE);
         }
     }
-    of_byte(sentences::SPACE_TOO_MANY, line, between(0, line.len()))
+    end_space(kind, line, count)
+}
+
+// A space that has no word before it, and whether a word follows.
+fn space_before(line: &[u8]) -> Cause {
+    let place = odd_space(line);
+    let rest = part(line, place, line.len());
+    let mut sentence = sentences::SPACE_TOO_MANY;
+    if spaces(rest) == rest.len() {
+        sentence = sentences::SPACE_AT_END;
+    }
+    of_byte(sentence, line, place)
 }
 
 fn unknown(kind: usize, line: &[u8]) -> Cause {
@@ -110,10 +134,7 @@ fn misplaced(kind: usize, refused: RefusedLine) -> Cause {
 }
 
 fn ended_line(kind: usize, s: &[u8], line: &[u8], refused: RefusedLine) -> Cause {
-    let space = or(
-        of_byte(sentences::SPACE_TOO_MANY, line, odd_space(line)),
-        last_space(kind, line),
-    );
+    let space = or(space_before(line), last_space(kind, line));
     let word = or(unknown(kind, line), misplaced(kind, refused));
     or(space, or(word, fields(kind, s, line, refused)))
 }

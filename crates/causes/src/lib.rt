@@ -7,6 +7,7 @@ mod form;
 mod numbers;
 
 use crate::fields::hex_hint;
+use crate::fields::line_of_base;
 use crate::form::belongs;
 use crate::form::form_cause;
 use crate::numbers::number_cause;
@@ -16,6 +17,7 @@ use cause_text::cause::said;
 use cause_text::sentences;
 use cause_text::sentences::ENDS_BEFORE;
 use cause_text::sentences::FIELD_COUNT;
+use cause_text::sentences::OTHER_BASE;
 use cause_text::tell::tell;
 use limits::refusal::FORM;
 use line_fields::forms::kind_of;
@@ -48,6 +50,7 @@ fn further(sentence: usize, kind: usize, line: &[u8], number: usize, n: usize) -
     match sentence {
         ENDS_BEFORE => belongs(number),
         FIELD_COUNT => hex_hint(kind, line, n),
+        OTHER_BASE => line_of_base(line, number),
         _ => said(sentences::NONE),
     }
 }

@@ -1,8 +1,10 @@
 // The figures of the checks, beside what they are held against.
 use crate::links::link_at;
+use crate::missing::missing_verifies;
 use crate::pairs::suspect_pairs;
 use certified::certified_count;
 use certified::link_count;
+use frame::kind::CORRECT_FINAL;
 use limits::MOST_BASES;
 use message_text::say;
 use protocol::Base;
@@ -85,7 +87,10 @@ fn reasons(b: u8, base: Base, short: bool, suspected: bool) {
         tallies(base);
     }
     if suspected {
-        suspect_pairs(b, base);
+        return suspect_pairs(b, base);
+    }
+    if short {
+        missing_verifies(b, base);
     }
 }
 
@@ -98,6 +103,19 @@ pub fn prime(b: u8, base: Base) {
     verdict(base.state);
     let short = is_short(certified, sum, base.n, base.t);
     reasons(b, base, short, 0 < suspected);
+}
+
+// Of a base that has sent its Verify-Final: a Correct-Final by which two links now hold one list would have it send another.
+pub fn sent_before(b: u8, base: Base, kind: u8, v: [u32; MOST_BASES]) {
+    if kind != CORRECT_FINAL {
+        return;
+    }
+    if correct_count(base, v) == 2 {
+        say::base(
+            b,
+            b" sends no Verify-Final: it has sent one before, of another list\n",
+        );
+    }
 }
 
 // On the first n identifiers of v.

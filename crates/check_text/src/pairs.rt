@@ -12,10 +12,10 @@ use protocol::Base;
 use protocol::Link;
 
 // Pairs that are named: as many as t can be, and the one that is too many.
-const NAMED: usize = MOST_BASES / 2;
+pub(crate) const NAMED: usize = MOST_BASES / 2;
 
 // Whether a link that has an Announce lacks a Verify.
-fn lacks(link: Link, g: u32) -> bool {
+pub(crate) fn lacks(link: Link, g: u32) -> bool {
     if has_announce(link) {
         return !holds_verify(link, g);
     }
@@ -23,7 +23,7 @@ fn lacks(link: Link, g: u32) -> bool {
 }
 
 // `link 1 from base 2 lacks Verify 120`
-fn lacking(b: u8, i: usize, g: u32) {
+pub(crate) fn lacking(b: u8, i: usize, g: u32) {
     text(b"link ");
     number(i);
     text(b" from base ");
@@ -32,11 +32,15 @@ fn lacking(b: u8, i: usize, g: u32) {
     number(g as usize);
 }
 
-// `310 and 120 (`, behind so many pairs
-fn pair(named: usize, g: u32, h: u32) {
+pub(crate) fn behind(named: usize) {
     if 0 < named {
         text(b"; ");
     }
+}
+
+// `310 and 120 (`, behind so many pairs
+fn pair(named: usize, g: u32, h: u32) {
+    behind(named);
     number(g as usize);
     text(b" and ");
     number(h as usize);
@@ -119,14 +123,18 @@ fn pairs(b: u8, base: Base) -> usize {
     named
 }
 
-// Those of a base that has some.
-pub(crate) fn suspect_pairs(b: u8, base: Base) {
-    text(b"  suspect: ");
-    let named = pairs(b, base);
+// How many there are besides those that are named.
+pub(crate) fn more(named: usize) {
     if NAMED < named {
         text(b"; and ");
         number(named - NAMED);
         text(b" more");
     }
     text(b"\n");
+}
+
+// Those of a base that has some.
+pub(crate) fn suspect_pairs(b: u8, base: Base) {
+    text(b"  suspect: ");
+    more(pairs(b, base));
 }

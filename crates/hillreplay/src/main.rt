@@ -12,7 +12,7 @@ fn replay_input() {
     if 1 < os::arg_count() {
         io::write_all(
             STDERR_FILENO,
-            b"hillreplay: no argument is taken; the schedule is read from standard input\n",
+            b"hillreplay: no argument is taken; the schedule is read from standard input; hilltrace says why a line is refused\n",
         );
         return;
     }
@@ -33,7 +33,7 @@ fn main() {
     if asks_help() {
         io::write_all(
             STDOUT_FILENO,
-            b"usage: hillreplay < SCHEDULE    prints the report of the schedule\n",
+            b"usage: hillreplay < SCHEDULE    prints the report of the schedule; hilltrace < SCHEDULE says why a line is refused\n",
         );
         return;
     }

@@ -189,7 +189,8 @@ impl Line {
         }
         let fields = self.words.len() - 1;
         if fields == names.len() {
-            return vec![self.fields(word, names)];
+            let of_another = (word == "id" && self.number <= self.n() + 1).then(|| self.line_of_base()).flatten();
+            return std::iter::once(self.fields(word, names)).chain(of_another).collect();
         }
         let has = counted(fields, "field");
         let mut causes = vec![format!("the form is `{word} {}`, and the line has {has} behind its word", names.join(" "))];
@@ -203,6 +204,13 @@ impl Line {
         causes
     }
 
+    /// In the header, of a base whose line stands before.
+    fn line_of_base(&self) -> Option<String> {
+        let b = self.base(1);
+        let numbers = (1..=2).all(|i| self.number_fault(i).is_none());
+        (numbers && 0 < b && b + 1 < self.number).then(|| format!("line {} is the line of base {b}", b + 1))
+    }
+
     fn unknown(&self) -> String {
         let word = self.word(0);
         if self.words.join(" ").is_empty() {
@@ -213,15 +221,28 @@ impl Line {
 
     fn spaces(&self) -> Option<String> {
         let text = self.words.join(" ");
-        let too_many = |number: usize| format!("byte {number} is a space too many");
+        let at_end = |number: usize| format!("byte {number} is a space at the end of the line, where none may stand");
+        let too_many = |place: usize| match text[place..].trim_start_matches(' ') {
+            "" => at_end(place + 1),
+            _ => format!("byte {} is a space too many", place + 1),
+        };
         if text.starts_with(' ') {
-            return Some(too_many(1));
+            return Some(too_many(0));
         }
         if let Some(place) = text.find("  ") {
-            return Some(too_many(place + 2));
+            return Some(too_many(place + 1));
         }
-        let no_bytes = text.starts_with("forge ") && self.words.len() == 4;
-        (text.ends_with(' ') && !no_bytes).then(|| too_many(text.len()))
+        if !text.ends_with(' ') {
+            return None;
+        }
+        let last = self.words.len() - 1;
+        match FORMS.iter().find(|(word, _)| *word == self.word(0)) {
+            Some(("forge", _)) if last == 3 => None,
+            Some((word, names)) if last <= names.len() => {
+                Some(format!("{} is missing, and the form is `{word} {}`", names[last - 1], names.join(" ")))
+            }
+            _ => Some(at_end(text.len())),
+        }
     }
 
     fn misplaced(&self, word: &str) -> Option<String> {
@@ -275,16 +296,17 @@ impl Line {
             let number = self.words.join(" ").len() - digits.len() + place + 1;
             return Some(format!("byte {number} is `{}`, and {fault}", visible(sign)));
         }
-        if digits.len() > 2 * LONGEST_FORGERY {
-            return Some(format!("hex has more than {LONGEST_FORGERY} bytes"));
+        if digits.len() % 2 == 1 {
+            return Some(format!("hex has {}, and a byte has two", counted(digits.len(), "digit")));
         }
-        (digits.len() % 2 == 1).then(|| format!("hex has {}, and a byte has two", counted(digits.len(), "digit")))
+        let bytes = digits.len() / 2;
+        (bytes > LONGEST_FORGERY).then(|| format!("hex has {bytes} bytes, and at most {LONGEST_FORGERY} are allowed"))
     }
 
     fn against_the_net(&self, word: &str, names: &[&str]) -> String {
         let n = self.n();
         if word == "id" && self.number <= n + 1 {
-            return format!("{}, and this is the line of base {}", self.is(names, 1), self.number - 1);
+            return format!("{}, and here belongs the line of base {}", self.is(names, 1), self.number - 1);
         }
         if word == "id" && self.is_base(1) {
             return format!("{}, and that base has its line already, line {}", self.is(names, 1), self.base(1) + 1);

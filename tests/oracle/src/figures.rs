@@ -4,11 +4,13 @@ use crate::base::{Base, State};
 use crate::limits::MOST_BASES;
 use crate::message::Message;
 
-/// Suspect pairs that the trace names.
+/// What is said behind a base's number where it has no second vote.
+pub const SILENT: &str = " sends no Verify-Final: it has sent one before, of another list";
+/// Suspect pairs that the trace names, or links that lack a Verify.
 const NAMED: usize = MOST_BASES / 2;
 
-/// The lines about the check at base `at`.
-pub fn told(at: usize, base: &Base, message: &Message) -> Vec<String> {
+/// The lines about the check at base `at`, which may have sent a Verify-Final before the message.
+pub fn told(at: usize, had_sent: bool, base: &Base, message: &Message) -> Vec<String> {
     let verdict = match base.state {
         State::Prime(_) => "prime",
         State::Secondary(_) => "secondary",
@@ -18,7 +20,10 @@ pub fn told(at: usize, base: &Base, message: &Message) -> Vec<String> {
         Message::CorrectFinal(list) | Message::VerifyFinal(list) => {
             let (tally, corrects) = (base.list_tally(list), base.correct_finals(list));
             let figures = format!("tally {tally}, {} needed; Correct-Finals {corrects}, 2 needed", base.t + 1);
-            vec![format!("  base {at}, secondary check of {}: {figures}; {verdict}", listed(list))]
+            // the second of one list: a base that had sent its Verify-Final sent it for another
+            let asks = matches!(message, Message::CorrectFinal(_)) && corrects == 2;
+            let silent = (asks && had_sent).then(|| format!("  base {at}{SILENT}"));
+            silent.into_iter().chain([format!("  base {at}, secondary check of {}: {figures}; {verdict}", listed(list))]).collect()
         }
         Message::Announce(_) | Message::Verify(_) => {
             let (found, n, t) = (base.prime_figures(), base.n, base.t);
@@ -26,7 +31,8 @@ pub fn told(at: usize, base: &Base, message: &Message) -> Vec<String> {
             let line = format!("certified {}, {n} needed; {sum}; suspects {}, at most {t}; {verdict}", found.certified, found.suspects);
             let short = found.certified == n && found.sum < n * n - 2 * t;
             let tallies = short.then(|| tallies(base));
-            std::iter::once(format!("  base {at}, prime check: {line}")).chain(tallies).chain(suspects(at, base)).collect()
+            let behind = suspects(at, base).or_else(|| short.then(|| missing(at, base)));
+            std::iter::once(format!("  base {at}, prime check: {line}")).chain(tallies).chain(behind).collect()
         }
     }
 }
@@ -58,12 +64,23 @@ fn suspects(at: usize, base: &Base) -> Option<String> {
             }
         }
     }
-    let more = pairs.len().saturating_sub(NAMED);
-    pairs.truncate(NAMED);
+    (!pairs.is_empty()).then(|| format!("  suspect: {}", first_named(pairs)))
+}
+
+/// `  missing: link 1 from base 1 lacks Verify 310; ..`, of any identifier
+fn missing(at: usize, base: &Base) -> String {
+    let ids = base.certified();
+    let of_link = |place| ids.iter().filter_map(move |&id| lacks(at, base, place, id));
+    format!("  missing: {}", first_named((0..base.links.len()).flat_map(of_link).collect()))
+}
+
+fn first_named(mut all: Vec<String>) -> String {
+    let more = all.len().saturating_sub(NAMED);
+    all.truncate(NAMED);
     if more > 0 {
-        pairs.push(format!("and {more} more"));
+        all.push(format!("and {more} more"));
     }
-    (!pairs.is_empty()).then(|| format!("  suspect: {}", pairs.join("; ")))
+    all.join("; ")
 }
 
 fn lacks(at: usize, base: &Base, place: usize, id: u32) -> Option<String> {

@@ -49,7 +49,7 @@ const OWN: &str = "the identifier is its own";
 /// Behind `accepted`, and before the list of the message that gave way.
 const REPLACED: &str = "accepted, in place of the link's Verify-Final of ";
 
-/// A line with an event: what became of it; the list that gave way, or a refused burst's kind and count; and what the trace says of the
+/// A line with an event: what became of it; the list that gave way, or what a refused burst's trailer says; and what the trace says of the
 /// check behind it.
 #[derive(Debug, PartialEq, Eq)]
 struct Told {
@@ -194,6 +194,7 @@ fn told(line: usize, net: &Net, event: &Event) -> Told {
     };
     let link = link_to(at, from) - 1;
     let held = base.links[link].vector.clone();
+    let had_sent = base.sent_verify_final;
     let own = matches!(frame.message, Message::Announce(id) if id == base.own);
     let accepted = match (&frame.message, held) {
         (Message::CorrectFinal(_), Some((Vote::VerifyFinal, list))) => of(Outcome::Replaced, figures::listed(&list)),
@@ -202,14 +203,19 @@ fn told(line: usize, net: &Net, event: &Event) -> Told {
     match base.arrive(link, frame.message.clone()).discarded {
         Some(Discard::Certified) if own => of(Outcome::Own, String::new()),
         Some(reason) => of(Outcome::Discarded(reason), String::new()),
-        None => Told { check: figures::told(at, &base, &frame.message), ..accepted },
+        None => Told { check: figures::told(at, had_sent, &base, &frame.message), ..accepted },
     }
 }
 
-/// Of a burst that is refused for its count.
+/// Of a burst that is refused for what its trailer says.
 fn trailer(number: Number, burst: &[u8]) -> String {
-    match burst {
-        [.., kind, count, _, _] if number == 9 => format!("kind {kind}, count {count}"),
+    let &[.., kind, count, high, low] = burst else { return String::new() };
+    let (back, right) = (u16::from_be_bytes([high, low]), 4 * u16::from(count) + 4);
+    match number {
+        8 => format!("kind {kind}"),
+        9 => format!("kind {kind}, count {count}"),
+        10 if back == right => format!("back distance {back}, and the burst has {} bytes", burst.len()),
+        10 => format!("back distance {back}, where {right} belongs"),
         _ => String::new(),
     }
 }
@@ -232,8 +238,8 @@ fn by_the_trace(trace: &str) -> Result<Outcomes, String> {
         if let Some((number, _)) = text.strip_prefix("line ").and_then(|rest| rest.split_once(": ")) {
             line = number.parse().map_err(|_| format!("no line of a schedule: {text}"))?;
         }
-        let behind_the_check = ["  tallies: ", "  suspect: "].iter().any(|begin| text.starts_with(begin));
-        let is_check = text.contains(" check: ") || text.contains(" check of ") || behind_the_check;
+        let behind_the_check = ["  tallies: ", "  suspect: ", "  missing: "].iter().any(|begin| text.starts_with(begin));
+        let is_check = text.contains(" check: ") || text.contains(" check of ") || text.ends_with(figures::SILENT) || behind_the_check;
         if let (true, Some(told)) = (is_check, outcomes.last_mut()) {
             told.check.push(text.to_string());
         }
