@@ -37,7 +37,7 @@ fn stop(b: u8, n: u8, state: u8, list: [u32; MOST_BASES]) {
     output::text(b"\n");
 }
 
-// The secondary check, at a base that may have sent a Verify-Final before.
+// The secondary check; sent is 1 where the base had sent its Verify-Final.
 fn list_checked(b: u8, sent: u8, after: Base, kind: u8, list: [u32; MOST_BASES]) {
     if sent != 0 {
         check_text::sent_before(b, after, kind, list);
@@ -94,7 +94,7 @@ fn started(b: u8, base: Base, made: usize) {
     broadcasts(caller, answer, false, &frames);
 }
 
-// What a message that was heard led to, at a base that had sent so many Verify-Finals.
+// What a message that was heard led to.
 fn answered(
     caller: Caller,
     sent: u8,
