@@ -5,13 +5,13 @@ mod trailer;
 
 use c_answers::read_numbers;
 use cause_text::meanings::meaning;
-use check_text::links::link_at;
 use frame::kind::CORRECT_FINAL;
 use frame::kind::VERIFY_FINAL;
 use message_text::say;
 use protocol::Base;
 use protocol::IDLE;
 use protocol::Link;
+use suspect_text::links::link_at;
 
 // On which link a burst arrives, from which base or as if from it.
 pub struct Arrival {

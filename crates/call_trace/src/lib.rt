@@ -7,7 +7,6 @@ use c_answers::CallAnswer;
 use c_answers::outcome_numbers;
 use c_answers::read_numbers;
 use change::changed;
-use check_text::figures;
 use engine::changes::arrive;
 use engine::changes::start;
 use frame::kind::CORRECT_FINAL;
@@ -38,12 +37,12 @@ fn stop(b: u8, n: u8, state: u8, list: [u32; MOST_BASES]) {
     output::text(b"\n");
 }
 
-// The secondary check, at a base that may have sent a Verify-Final before.
+// The secondary check; sent is 1 where the base had sent its Verify-Final.
 fn list_checked(b: u8, sent: u8, after: Base, kind: u8, list: [u32; MOST_BASES]) {
     if sent != 0 {
-        figures::sent_before(b, after, kind, list);
+        check_text::sent_before(b, after, kind, list);
     }
-    figures::secondary(b, after, list);
+    check_text::secondary(b, after, list);
 }
 
 // The check that follows an accepted message.
@@ -51,7 +50,7 @@ fn checked(b: u8, sent: u8, after: Base, burst: &[u8]) {
     let taken = read_numbers(after.n as usize, burst);
     let list = taken.ids;
     if taken.kind < CORRECT_FINAL {
-        figures::prime(b, after);
+        check_text::prime(b, after);
     } else {
         list_checked(b, sent, after, taken.kind, list);
     }
@@ -95,7 +94,7 @@ fn started(b: u8, base: Base, made: usize) {
     broadcasts(caller, answer, false, &frames);
 }
 
-// What a message that was heard led to, at a base that had sent so many Verify-Finals.
+// What a message that was heard led to.
 fn answered(
     caller: Caller,
     sent: u8,

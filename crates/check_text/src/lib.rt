@@ -1,5 +1,134 @@
-// What a check of a base counted, told on standard output: its figures beside what they are held against, and the suspect pairs.
-pub mod figures;
-pub mod links;
-mod missing;
-mod pairs;
+// The figures of the checks, told on standard output beside what they are held against.
+use certified::certified_count;
+use certified::link_count;
+use frame::kind::CORRECT_FINAL;
+use limits::MOST_BASES;
+use message_text::say;
+use protocol::Base;
+use suspect_text::links::link_at;
+use suspect_text::missing::missing_verifies;
+use suspect_text::pairs::suspect_pairs;
+use suspects::suspect_count;
+use tally::tally_of;
+use tally::tally_sum;
+use vectors::correct_count;
+use vectors::list_tally;
+
+// n² - 2t
+fn sum_asked(n: u8, t: u8) -> usize {
+    let bases = n as usize;
+    if MOST_BASES < bases {
+        return 0;
+    }
+    let square = bases * bases;
+    let less = 2 * (t as usize);
+    if square < less {
+        return 0;
+    }
+    square - less
+}
+
+// What the check made of the base.
+fn verdict(state: u8) {
+    match state {
+        2 => output::text(b"; prime\n"),
+        3 => output::text(b"; secondary\n"),
+        _ => output::text(b"; runs on\n"),
+    }
+}
+
+// Words, and `3 of 310`
+fn tally(base: Base, g: u32, words: &[u8]) {
+    output::text(words);
+    output::number(tally_of(base, g));
+    output::text(b" of ");
+    output::number(g as usize);
+}
+
+fn link_tallies(base: Base) {
+    let k = link_count(base.n);
+    let mut i: usize = 0;
+    while i < k {
+        i += 1;
+        tally(base, link_at(base, i).announce, b", ");
+    }
+}
+
+// The tallies behind a sum, where every link has announced an identifier.
+fn tallies(base: Base) {
+    tally(base, base.own, b"  tallies: ");
+    link_tallies(base);
+    output::text(b"\n");
+}
+
+// Whether every link has announced an identifier, and the sum is short all the same.
+fn is_short(certified: usize, sum: usize, n: u8, t: u8) -> bool {
+    if certified != n as usize {
+        return false;
+    }
+    sum < sum_asked(n, t)
+}
+
+fn suspects(suspected: usize, t: u8) {
+    output::number(suspected);
+    output::text(b", at most ");
+    output::number(t as usize);
+}
+
+fn prime_figures(b: u8, n: u8, t: u8, certified: usize, sum: usize) {
+    say::base(b, b", prime check: certified ");
+    say::needed(certified, n as usize, b"; sum ");
+    say::needed(sum, sum_asked(n, t), b"; suspects ");
+}
+
+// What is behind the figures.
+fn reasons(b: u8, base: Base, short: bool, suspected: bool) {
+    if short {
+        tallies(base);
+    }
+    if suspected {
+        return suspect_pairs(b, base);
+    }
+    if short {
+        missing_verifies(b, base);
+    }
+}
+
+pub fn prime(b: u8, base: Base) {
+    let suspected = suspect_count(base);
+    let certified = certified_count(base);
+    let sum = tally_sum(base);
+    prime_figures(b, base.n, base.t, certified, sum);
+    suspects(suspected, base.t);
+    verdict(base.state);
+    let short = is_short(certified, sum, base.n, base.t);
+    reasons(b, base, short, 0 < suspected);
+}
+
+// Of a base that had sent its Verify-Final: the second Correct-Final of a list would have it send one. That it sent was for another list, as
+// a base votes for a list with the second Correct-Final of it.
+pub fn sent_before(b: u8, base: Base, kind: u8, v: [u32; MOST_BASES]) {
+    if kind != CORRECT_FINAL {
+        return;
+    }
+    if correct_count(base, v) == 2 {
+        say::base(
+            b,
+            b" sends no Verify-Final: it has sent one before, of another list\n",
+        );
+    }
+}
+
+// On the first n identifiers of v.
+pub fn secondary(b: u8, base: Base, v: [u32; MOST_BASES]) {
+    say::base(b, b", secondary check of");
+    say::identifiers(v, base.n as usize);
+    output::text(b": tally ");
+    say::needed(
+        list_tally(base, v),
+        base.t as usize + 1,
+        b"; Correct-Finals ",
+    );
+    say::needed(correct_count(base, v), 2, b"");
+    verdict(base.state);
+}

@@ -1,8 +1,8 @@
 -- The links are counted up to their number.
 use Prim.Native.Nat.{_≤_, _-_}
 use borrow.Author.Needs.{needs}
-use Rattle.check_text.proofs.missing.missing.Statement.{statement}
-use Rattle.check_text.proofs.missing.missing.Tie as tie
+use Rattle.suspect_text.proofs.pairs.pairs.Statement.{statement}
+use Rattle.suspect_text.proofs.pairs.pairs.Tie as tie
 
 abbrev Inv-loop : tie.InvT-loop
 Inv-loop b base k named₀ i₀ named i = i ≤ k
@@ -19,11 +19,8 @@ loop-holds c = search needs
 add-i : tie.Need-add-i Inv-loop μ-loop
 add-i c = search needs
 
-link-at-requires : tie.Need-link-at-requires Inv-loop μ-loop
-link-at-requires c κs = search needs
-
-missing-of-requires : tie.Need-missing-of-requires Inv-loop μ-loop
-missing-of-requires c κs = search needs
+pairs-of-requires : tie.Need-pairs-of-requires Inv-loop μ-loop
+pairs-of-requires c κs = search needs
 
 loop-less : tie.Need-loop-less Inv-loop μ-loop
 loop-less c = search needs
@@ -34,8 +31,8 @@ loop-again c = search needs
 returns : tie.Need-returns Inv-loop μ-loop
 returns c = search needs
 
-pub missing-spec : {M : Type 1} → statement M
-missing-spec =
+pub pairs-spec : {M : Type 1} → statement M
+pairs-spec =
     tie.close
     (tie.spec
     Inv-loop
@@ -43,8 +40,7 @@ missing-spec =
     link-count-requires
     loop-holds
     add-i
-    link-at-requires
-    missing-of-requires
+    pairs-of-requires
     loop-less
     loop-again
     returns)

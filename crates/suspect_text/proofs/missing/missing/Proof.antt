@@ -1,14 +1,14 @@
 -- The links are counted up to their number.
 use Prim.Native.Nat.{_≤_, _-_}
 use borrow.Author.Needs.{needs}
-use Rattle.check_text.proofs.figures.link_tallies.Statement.{statement}
-use Rattle.check_text.proofs.figures.link_tallies.Tie as tie
+use Rattle.suspect_text.proofs.missing.missing.Statement.{statement}
+use Rattle.suspect_text.proofs.missing.missing.Tie as tie
 
 abbrev Inv-loop : tie.InvT-loop
-Inv-loop base k i₀ separator i = i ≤ k
+Inv-loop b base k named₀ i₀ named i = i ≤ k
 
 abbrev μ-loop : tie.MeasureT-loop
-μ-loop base k i₀ separator i = k - i
+μ-loop b base k named₀ i₀ named i = k - i
 
 link-count-requires : tie.Need-link-count-requires Inv-loop μ-loop
 link-count-requires c κs = search needs
@@ -22,11 +22,8 @@ add-i c = search needs
 link-at-requires : tie.Need-link-at-requires Inv-loop μ-loop
 link-at-requires c κs = search needs
 
-slice-aggregate-tally : tie.Need-slice-aggregate-tally Inv-loop μ-loop
-slice-aggregate-tally c = search needs
-
-tally-requires : tie.Need-tally-requires Inv-loop μ-loop
-tally-requires c κs = search needs
+missing-of-requires : tie.Need-missing-of-requires Inv-loop μ-loop
+missing-of-requires c κs = search needs
 
 loop-less : tie.Need-loop-less Inv-loop μ-loop
 loop-less c = search needs
@@ -37,8 +34,8 @@ loop-again c = search needs
 returns : tie.Need-returns Inv-loop μ-loop
 returns c = search needs
 
-pub link-tallies-spec : {M : Type 1} → statement M
-link-tallies-spec =
+pub missing-spec : {M : Type 1} → statement M
+missing-spec =
     tie.close
     (tie.spec
     Inv-loop
@@ -47,8 +44,7 @@ link-tallies-spec =
     loop-holds
     add-i
     link-at-requires
-    slice-aggregate-tally
-    tally-requires
+    missing-of-requires
     loop-less
     loop-again
     returns)

@@ -1,14 +1,14 @@
 -- The links are counted up to their number.
 use Prim.Native.Nat.{_≤_, _-_}
 use borrow.Author.Needs.{needs}
-use Rattle.check_text.proofs.pairs.pairs.Statement.{statement}
-use Rattle.check_text.proofs.pairs.pairs.Tie as tie
+use Rattle.check_text.proofs.link_tallies.Statement.{statement}
+use Rattle.check_text.proofs.link_tallies.Tie as tie
 
 abbrev Inv-loop : tie.InvT-loop
-Inv-loop b base k named₀ i₀ named i = i ≤ k
+Inv-loop base k i₀ separator i = i ≤ k
 
 abbrev μ-loop : tie.MeasureT-loop
-μ-loop b base k named₀ i₀ named i = k - i
+μ-loop base k i₀ separator i = k - i
 
 link-count-requires : tie.Need-link-count-requires Inv-loop μ-loop
 link-count-requires c κs = search needs
@@ -19,8 +19,14 @@ loop-holds c = search needs
 add-i : tie.Need-add-i Inv-loop μ-loop
 add-i c = search needs
 
-pairs-of-requires : tie.Need-pairs-of-requires Inv-loop μ-loop
-pairs-of-requires c κs = search needs
+link-at-requires : tie.Need-link-at-requires Inv-loop μ-loop
+link-at-requires c κs = search needs
+
+slice-aggregate-tally : tie.Need-slice-aggregate-tally Inv-loop μ-loop
+slice-aggregate-tally c = search needs
+
+tally-requires : tie.Need-tally-requires Inv-loop μ-loop
+tally-requires c κs = search needs
 
 loop-less : tie.Need-loop-less Inv-loop μ-loop
 loop-less c = search needs
@@ -31,8 +37,8 @@ loop-again c = search needs
 returns : tie.Need-returns Inv-loop μ-loop
 returns c = search needs
 
-pub pairs-spec : {M : Type 1} → statement M
-pairs-spec =
+pub link-tallies-spec : {M : Type 1} → statement M
+link-tallies-spec =
     tie.close
     (tie.spec
     Inv-loop
@@ -40,7 +46,9 @@ pairs-spec =
     link-count-requires
     loop-holds
     add-i
-    pairs-of-requires
+    link-at-requires
+    slice-aggregate-tally
+    tally-requires
     loop-less
     loop-again
     returns)

@@ -1,8 +1,8 @@
 -- The links before i are counted up to i.
 use Prim.Native.Nat.{_≤_, _+_, _-_}
 use borrow.Author.Needs.{needs}
-use Rattle.check_text.proofs.pairs.pairs_of.Statement.{statement}
-use Rattle.check_text.proofs.pairs.pairs_of.Tie as tie
+use Rattle.suspect_text.proofs.pairs.pairs_of.Statement.{statement}
+use Rattle.suspect_text.proofs.pairs.pairs_of.Tie as tie
 
 abbrev Inv-loop : tie.InvT-loop
 Inv-loop b base i before named₀ j₀ named j = j ≤ i + 1

@@ -134,7 +134,7 @@ pub(crate) fn more(named: usize) {
 }
 
 // Those of a base that has some.
-pub(crate) fn suspect_pairs(b: u8, base: Base) {
+pub fn suspect_pairs(b: u8, base: Base) {
     text(b"  suspect: ");
     more(pairs(b, base));
 }

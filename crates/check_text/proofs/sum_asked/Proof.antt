@@ -2,8 +2,8 @@
 use native.Mathlib.Omega.{arith}
 use native.Mathlib.Nat.{mul-le-mul-right}
 use borrow.Author.Needs.{needs}
-use Rattle.check_text.proofs.figures.sum_asked.Statement.{statement}
-use Rattle.check_text.proofs.figures.sum_asked.Tie as tie
+use Rattle.check_text.proofs.sum_asked.Statement.{statement}
+use Rattle.check_text.proofs.sum_asked.Tie as tie
 
 returns : tie.Need-returns
 returns c = search needs

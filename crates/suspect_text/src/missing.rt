@@ -35,7 +35,7 @@ fn missing(b: u8, base: Base) -> usize {
     named
 }
 
-pub(crate) fn missing_verifies(b: u8, base: Base) {
+pub fn missing_verifies(b: u8, base: Base) {
     text(b"  missing: ");
     more(missing(b, base));
 }
