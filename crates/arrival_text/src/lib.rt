@@ -9,7 +9,6 @@ use frame::kind::CORRECT_FINAL;
 use frame::kind::VERIFY_FINAL;
 use message_text::say;
 use protocol::Base;
-use protocol::IDLE;
 use protocol::Link;
 use suspect_text::links::link_at;
 
@@ -87,9 +86,6 @@ fn accepts(b: u8, n: u8, held: Link, arrival: Arrival, burst: &[u8]) {
 
 // The message that was not refused.
 pub fn heard(b: u8, base: Base, arrival: Arrival, accepted: bool, burst: &[u8]) {
-    if base.state == IDLE {
-        say::base(b, b" starts\n");
-    }
     let held = link_at(base, arrival.link);
     if accepted {
         accepts(b, base.n, held, arrival, burst);

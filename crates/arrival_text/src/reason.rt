@@ -9,6 +9,7 @@ use line_fields::line::row;
 use output::text;
 use protocol::Base;
 use protocol::Link;
+use protocol::PRIME;
 
 // A row each.
 const REASONS: [u8; 215] = *b"
@@ -60,7 +61,7 @@ fn of_verify(link: Link, g: u32) -> usize {
 
 // By what the link holds, for a message of that kind with g as its first identifier.
 fn of_message(base: Base, held: Link, kind: u8, g: u32) -> usize {
-    if 2 <= base.state {
+    if PRIME <= base.state {
         return STOPPED;
     }
     match kind {

@@ -3,7 +3,9 @@
 use arrival_text::Arrival;
 use arrival_text::heard;
 use arrival_text::refused;
+use c_answers::ACCEPTED;
 use c_answers::CallAnswer;
+use c_answers::REFUSED;
 use c_answers::outcome_numbers;
 use c_answers::read_numbers;
 use change::changed;
@@ -14,7 +16,9 @@ use leader::leader_of;
 use limits::MOST_BASES;
 use limits::OUTPUT_ROOM;
 use message_text::frames::Caller;
+use message_text::frames::behind_start;
 use message_text::frames::broadcasts;
+use message_text::frames::of_start;
 use message_text::say;
 use protocol::Base;
 use protocol::IDLE;
@@ -72,7 +76,7 @@ fn caller_of(b: u8, made: usize, after: Base) -> Caller {
         b,
         n: after.n,
         made,
-        stops: 2 <= after.state,
+        stops: PRIME <= after.state,
     }
 }
 
@@ -87,11 +91,20 @@ pub fn start_call(b: u8, base: Base, made: usize) {
 fn started(b: u8, base: Base, made: usize) {
     let mut frames = [0u8; OUTPUT_ROOM];
     let change = start(base, &mut frames);
-    let outcome = change.outcome;
-    let answer = outcome_numbers(outcome);
+    starts(b, base.n, made, outcome_numbers(change.outcome), &frames);
+}
+
+fn starts(b: u8, n: u8, made: usize, answer: CallAnswer, frames: &[u8]) {
     say::base(b, b" starts\n");
-    let caller = caller_of(b, made, changed(base, change));
-    broadcasts(caller, answer, false, &frames);
+    of_start(b, n, made, answer, frames);
+}
+
+// What a message led to that an idle base heard first.
+fn answered_first(caller: Caller, after: Base, answer: CallAnswer, burst: &[u8], frames: &[u8]) {
+    behind_start(caller.b, caller.n, caller.made, answer, frames);
+    if answer.outcome == ACCEPTED {
+        checked(caller.b, 0, after, burst);
+    }
 }
 
 // What a message that was heard led to.
@@ -104,7 +117,7 @@ fn answered(
     frames: &[u8],
 ) {
     broadcasts(caller, answer, false, frames);
-    if answer.outcome == 1 {
+    if answer.outcome == ACCEPTED {
         checked(caller.b, sent, after, burst);
         stopped(caller, after, answer, frames);
     }
@@ -116,11 +129,16 @@ pub fn arrival_call(b: u8, base: Base, made: usize, arrival: Arrival, burst: &[u
     let change = arrive(base, arrival.link, burst, &mut frames);
     let outcome = change.outcome;
     let answer = outcome_numbers(outcome);
-    if answer.outcome == 0 {
+    if answer.outcome == REFUSED {
         return refused(b, arrival, burst, answer.refusal);
     }
-    heard(b, base, arrival, answer.outcome == 1, burst);
     let after = changed(base, change);
     let caller = caller_of(b, made, after);
+    if base.state == IDLE {
+        starts(b, base.n, made, answer, &frames);
+        heard(b, base, arrival, answer.outcome == ACCEPTED, burst);
+        return answered_first(caller, after, answer, burst, &frames);
+    }
+    heard(b, base, arrival, answer.outcome == ACCEPTED, burst);
     answered(caller, base.sent, after, answer, burst, &frames);
 }

@@ -5,6 +5,8 @@ use frame::kind::CORRECT_FINAL;
 use limits::MOST_BASES;
 use message_text::say;
 use protocol::Base;
+use protocol::PRIME;
+use protocol::SECONDARY;
 use suspect_text::links::link_at;
 use suspect_text::missing::missing_verifies;
 use suspect_text::pairs::suspect_pairs;
@@ -31,18 +33,18 @@ fn sum_asked(n: u8, t: u8) -> usize {
 // What the check made of the base.
 fn verdict(state: u8) {
     match state {
-        2 => output::text(b"; prime\n"),
-        3 => output::text(b"; secondary\n"),
+        PRIME => output::text(b"; prime\n"),
+        SECONDARY => output::text(b"; secondary\n"),
         _ => output::text(b"; runs on\n"),
     }
 }
 
-// Words, and `3 of 310`
+// Words, and `310 has 3`
 fn tally(base: Base, g: u32, words: &[u8]) {
     output::text(words);
-    output::number(tally_of(base, g));
-    output::text(b" of ");
     output::number(g as usize);
+    output::text(b" has ");
+    output::number(tally_of(base, g));
 }
 
 fn link_tallies(base: Base) {

@@ -37,6 +37,18 @@ fn shown(length: usize, next: usize, stops: bool, last: bool) -> usize {
     0
 }
 
+// The two frames of a start.
+pub fn of_start(b: u8, n: u8, made: usize, answer: CallAnswer, frames: &[u8]) {
+    broadcast(b, n, plus(made, 1), part(frames, 0, answer.first));
+    broadcast(b, n, plus(made, 2), part(frames, answer.first, answer.second));
+}
+
+// The frame behind those of a start: an idle base does not stop by its first message.
+pub fn behind_start(b: u8, n: u8, made: usize, answer: CallAnswer, frames: &[u8]) {
+    let place = plus(answer.first, answer.second);
+    broadcast(b, n, plus(made, 3), part(frames, place, answer.third));
+}
+
 // The frames of a call, before its check or after it.
 pub fn broadcasts(caller: Caller, answer: CallAnswer, last: bool, frames: &[u8]) {
     let b = caller.b;

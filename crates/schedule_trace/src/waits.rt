@@ -30,7 +30,7 @@ fn told(receiver: Node, a: u8, b: u8, count: usize) {
     number(a as usize);
     text(b" to base ");
     number(b as usize);
-    text(b":");
+    text(b", by number:");
     numbers(receiver, a, count);
 }
 

@@ -4,7 +4,7 @@ use crate::links::link_at;
 use certified::link_count;
 use held::has_announce;
 use held_lists::holds_verify;
-use limits::MOST_BASES;
+use limits::MOST_FAULTY;
 use output::number;
 use output::text;
 use parts::plus;
@@ -12,7 +12,7 @@ use protocol::Base;
 use protocol::Link;
 
 // Pairs that are named: as many as t can be, and the one that is too many.
-pub(crate) const NAMED: usize = MOST_BASES / 2;
+pub(crate) const NAMED: usize = MOST_FAULTY + 1;
 
 // Whether a link that has an Announce lacks a Verify.
 pub(crate) fn lacks(link: Link, g: u32) -> bool {

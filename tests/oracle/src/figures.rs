@@ -42,10 +42,10 @@ pub fn listed(list: &[u32]) -> String {
     ids.join(" ")
 }
 
-/// `  tallies: 3 of 310, 2 of 120, ..`
+/// `  tallies: 310 has 3, 120 has 2, ..`
 fn tallies(base: &Base) -> String {
     let verified = |id| base.links.iter().filter(|link| link.verifies.contains(id)).count();
-    let each: Vec<String> = base.certified().iter().map(|id| format!("{} of {id}", verified(id) + 1)).collect();
+    let each: Vec<String> = base.certified().iter().map(|id| format!("{id} has {}", verified(id) + 1)).collect();
     format!("  tallies: {}", each.join(", "))
 }
 

@@ -147,13 +147,13 @@ fn ending(schedule: &[u8]) -> Vec<String> {
     [line, number].into_iter().chain(causes.iter().map(|cause| format!("  {cause}"))).chain(report).collect()
 }
 
-/// `waiting from base 1 to base 2: 3 4`
+/// `waiting from base 1 to base 2, by number: 3 4`
 fn waits(net: &Net) -> Vec<String> {
     let mut pairs: BTreeMap<(usize, usize), Vec<String>> = BTreeMap::new();
     for (from, to, k) in net.outstanding() {
         pairs.entry((from, to)).or_default().push(k.to_string());
     }
-    pairs.iter().map(|((from, to), numbers)| format!("waiting from base {from} to base {to}: {}", numbers.join(" "))).collect()
+    pairs.iter().map(|((from, to), numbers)| format!("waiting from base {from} to base {to}, by number: {}", numbers.join(" "))).collect()
 }
 
 const REFUSED_BY: &str = "  refused by ";
