@@ -3,13 +3,13 @@
 use arrival_text::Arrival;
 use arrival_text::heard;
 use arrival_text::refused;
+use arriving::arrive;
 use c_answers::ACCEPTED;
 use c_answers::CallAnswer;
 use c_answers::REFUSED;
 use c_answers::outcome_numbers;
 use c_answers::read_numbers;
 use change::changed;
-use engine::changes::arrive;
 use engine::changes::start;
 use frame::kind::CORRECT_FINAL;
 use leader::leader_of;
@@ -91,7 +91,8 @@ pub fn start_call(b: u8, base: Base, made: usize) {
 fn started(b: u8, base: Base, made: usize) {
     let mut frames = [0u8; OUTPUT_ROOM];
     let change = start(base, &mut frames);
-    starts(b, base.n, made, outcome_numbers(change.outcome), &frames);
+    let outcome = change.outcome;
+    starts(b, base.n, made, outcome_numbers(outcome), &frames);
 }
 
 fn starts(b: u8, n: u8, made: usize, answer: CallAnswer, frames: &[u8]) {

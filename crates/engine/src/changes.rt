@@ -3,23 +3,18 @@ use change::Change;
 use change::discarded;
 use change::only_state;
 use change::refused;
-use decoding::identifiers;
 use limits::MOST_BASES;
 use messages::message_refusal;
 use protocol::Base;
 use protocol::IDLE;
 use protocol::Outcome;
 use protocol::RUNNING;
-use reader::Reading;
-use reader::read;
 use soundness::refusals::place_refusal;
 use soundness::refusals::record_refusal;
 use soundness::refusals::start_refusal;
 use starting::begin;
 use stepping::step;
-use stretch::body;
 ghost use lib.ListN.{length};
-ghost use Rattle.protocol.specs.Steps.{arrival};
 ghost use Rattle.protocol.specs.Steps as Steps;
 ghost use Rattle.change.specs.Change.{Does};
 ghost use Rattle.engine.specs.Hearing.{messageArrival};
@@ -63,28 +58,4 @@ pub fn hear(base: Base, link: usize, kind: u8, ids: [u32; MOST_BASES], out: &mut
     }
     let i = link - 1;
     step(base, i, kind, ids, out)
-}
-
-// A burst arrives on a link, 1 to n - 1. Turned down by 1 to 12.
-pub fn arrive(base: Base, link: usize, burst: &[u8], out: &mut [u8]) -> Change
-    ensures { λ r. ⌜ Does base (arrival base link (now (burst .entry)) (length (now (out .entry)))) r
-        (now (out .entry)) (now (out .exit)) ⌝ }
-{
-    let refusal = place_refusal(record_refusal(base), base.n, link, out.len());
-    if refusal != 0 {
-        return refused(base, refusal);
-    }
-    let n = base.n as usize;
-    let i = link - 1;
-    match read(n, burst) {
-        Reading::Refused(number) => refused(base, number),
-        Reading::Message {
-            kind,
-            count: _,
-            start: _,
-        } => {
-            let ids = identifiers(body(n, burst));
-            step(base, i, kind, ids, out)
-        }
-    }
 }

@@ -62,7 +62,7 @@ pub extern "C" fn roster_arrive(
     ensures { λ r. ⌜ DoesAs outcomeNumbers (arrival (now (base .entry)) link (now (burst .entry)) (length (now (out .entry)))) r
         (now (base .exit)) (now (out .entry)) (now (out .exit)) ⌝ }
 {
-    let arrived = engine::changes::arrive(*base, link, burst, out);
+    let arrived = arriving::arrive(*base, link, burst, out);
     stored(base, arrived)
 }
 

@@ -29,10 +29,10 @@ use denote.Triple.Table.{cited}
 use Rattle.protocol.specs.Steps.{arrival}
 use Rattle.change.specs.Change.{changedBase, Does}
 use Rattle.c_answers.specs.Numbers.{outcomeNumbers}
-use Rattle.engine.proofs.changes.arrive as call
-use Rattle.engine.proofs.changes.arrive.Symbol as call-def
-use Rattle.engine.proofs.changes.arrive.Symbol.{name as #engine·changes·arrive}
-use Rattle.engine.proofs.changes.arrive.Met as call-thm
+use Rattle.arriving.proofs.arrive as call
+use Rattle.arriving.proofs.arrive.Symbol as call-def
+use Rattle.arriving.proofs.arrive.Symbol.{name as #arriving·arrive}
+use Rattle.arriving.proofs.arrive.Met as call-thm
 use Rattle.roster_c.proofs.stored as stored
 use Rattle.roster_c.proofs.stored.Symbol as stored-def
 use Rattle.roster_c.proofs.stored.Symbol.{name as #roster-c·stored}
@@ -48,7 +48,7 @@ use Rattle.roster_c.proofs.roster_arrive.Code as code
 
 module _ {M : Type 1} (𝓤 : URA M) (H : Heap 𝓤) (A : Atoms 𝓤) (W : Given 𝓤 H A) (at : Memory → SProp 𝓤) (run : Routine → Fun 𝓤)
     (C : Calls 𝓤 H) (Λ : Loops 𝓤 H) (fm : FmC 𝓤 H (W .laws) C)
-    (call-known : Triple 𝓤 (C #engine·changes·arrive) (triple 𝓤 H A call.ended (call.clauses 𝓤 H A at run)))
+    (call-known : Triple 𝓤 (C #arriving·arrive) (triple 𝓤 H A call.ended (call.clauses 𝓤 H A at run)))
     (stored-known : Triple 𝓤 (C #roster-c·stored) (triple 𝓤 H A stored.ended (stored.clauses 𝓤 H A at run))) where
   meets : Meets 𝓤 H A f.signature (WpFn 𝓤 H C Λ code.function) (f.spec 𝓤 H A at run)
   meets = meets-by 𝓤 H A W f.ended
@@ -102,5 +102,5 @@ pub roster-arrive-spec : {M : Type 1} → stated.statement M
 unfolding code.routine
 roster-arrive-spec 𝓤 H 𝓜 𝓖 𝓡 = proved 𝓤 H 𝓜 𝓖 𝓡 code.env #roster-arrive code.function (code.unfolded 𝓤 H 𝓜 𝓡) _
     (λ fm. meets 𝓤 H (𝓖 .A) (givenOf 𝓤 H 𝓜 𝓖) (𝓜 .mem) (𝓡 .run) (tables 𝓤 H 𝓜 𝓡 code.env .C) (tables 𝓤 H 𝓜 𝓡 code.env .Λ) fm
-    (cited 𝓤 H _ 𝓜 𝓡 code.env #engine·changes·arrive call-def.routine code.calls-engine·changes·arrive (call-thm.met 𝓤 H 𝓜 𝓖 𝓡))
+    (cited 𝓤 H _ 𝓜 𝓡 code.env #arriving·arrive call-def.routine code.calls-arriving·arrive (call-thm.met 𝓤 H 𝓜 𝓖 𝓡))
     (cited 𝓤 H _ 𝓜 𝓡 code.env #roster-c·stored stored-def.routine code.calls-roster-c·stored (stored-thm.met 𝓤 H 𝓜 𝓖 𝓡)))

@@ -1,7 +1,7 @@
--- `engine::changes::arrive` meets its contract: numbers 1 to 6, then that of the reading; a burst that has none was read, and what was
+-- `arriving::arrive` meets its contract: numbers 1 to 6, then that of the reading; a burst that has none was read, and what was
 -- read arrives.
 use Rattle.engine.specs.Hearing.Bursts.{burst-outside, burst-down, read-passes, read-heard}
 use Rattle.engine.specs.Hearing.Laws.{place-number, place-passed, heard-does}
 use Rattle.change.specs.Change.Laws.{does-as, refuses-does}
 use Rattle.soundness.specs.Place.{placeRefusal}
 use Rattle.reader.specs.Answers.{stretch}
@@ -11,8 +11,8 @@ use Rattle.protocol.proofs.Sizes.{base-sized}
 use lib.ListN.{length}
 use mathlib.Core.Path.{_≡_, refl, sym, ap, _∙_}
 use borrow.Author.Needs.{needs}
-use Rattle.engine.proofs.changes.arrive.Statement.{statement}
-use Rattle.engine.proofs.changes.arrive.Tie as tie
+use Rattle.arriving.proofs.arrive.Statement.{statement}
+use Rattle.arriving.proofs.arrive.Tie as tie
 
 number : (c : tie.After-place-refusal) → let a = c .before .before .before .before .args in
     c .place-refusal .result ≡ placeRefusal (a .base) (a .link) (length (a .out .now))
