@@ -32,10 +32,10 @@ use Rattle.engine.specs.Hearing.{messageArrival}
 use Rattle.engine.specs.Hearing.Laws.{place-passed}
 
 -- ---- numbers 1 to 6, then 7 to 12
-arrival-number : (b : Base) (link : ℕ) (s : List ℕ) (room : ℕ)
+burst-number : (b : Base) (link : ℕ) (s : List ℕ) (room : ℕ)
     → arrivalRefusal b link s room ≡ first (placeRefusal b link room) (burstRefusal (b .n) s)
 unfolding arrivalRefusal placeRefusal
-arrival-number b link s room =
+burst-number b link s room =
     ap (first (recordRefusal b)) (first-assoc (linkRefusal (b .n) link) (outputRefusal room) (burstRefusal (b .n) s))
     ∙ first-assoc (recordRefusal b) (first (linkRefusal (b .n) link) (outputRefusal room)) (burstRefusal (b .n) s)
 
@@ -46,7 +46,7 @@ module _ (b : Base) (link : ℕ) (s : List ℕ) (room : ℕ) where
 
   pub burst-outside : (r : ℕ) → r ≡ placeRefusal b link room → r ≢ 0 → arrival b link s room ≡ refuses b r
   burst-outside r e h =
-      turned-down r (arrival-number b link s room ∙ first-given (burstRefusal (b .n) s) (λ z. h (e ∙ z)) ∙ sym e) h
+      turned-down r (burst-number b link s room ∙ first-given (burstRefusal (b .n) s) (λ z. h (e ∙ z)) ∙ sym e) h
 
   -- the number of the reading
   pub burst-down : (r : ℕ) → placeRefusal b link room ≡ 0 → readingOf (b .n) s ≡ reads.Refused r → arrival b link s room ≡ refuses b r
@@ -54,7 +54,7 @@ module _ (b : Base) (link : ℕ) (s : List ℕ) (room : ℕ) where
   burst-down r z p =
       let q = reading-refused (b .n) s r p in
       let N = record-passed b (place-passed b link room z .ready .refusal) .net in
-      turned-down r (arrival-number b link s room ∙ first-none _ z ∙ sym (first-none _ (net-passes N)) ∙ q .0) (q .1)
+      turned-down r (burst-number b link s room ∙ first-none _ z ∙ sym (first-none _ (net-passes N)) ∙ q .0) (q .1)
 
   -- ---- a message
   module _ (kind count start : ℕ) (p : readingOf (b .n) s ≡ reads.Message kind count start) where
@@ -107,4 +107,4 @@ module _ (b : Base) (link : ℕ) (s : List ℕ) (room : ℕ) where
       pub read-heard : arrival b link s room ≡ messageArrival b link kind ids room
       unfolding arrival messageArrival
       read-heard = ap₂ (λ (r : ℕ) (m : Message). unless r b (arrivalStep b (link - 1) m))
-          (arrival-number b link s room ∙ ap (first (placeRefusal b link room)) (burst ∙ sym read-passes)) says
+          (burst-number b link s room ∙ ap (first (placeRefusal b link room)) (burst ∙ sym read-passes)) says

@@ -167,12 +167,12 @@ unfolding moved after withNode
 moved-n w e = choose-ind (λ (x : StoredNet). x .n ≡ w .n) (eqb (refusal (faultyOf w) (netOf w) e) 0)
     (λ _. choose-ind (λ (x : StoredNet). x .n ≡ w .n) (inRange (at e) mostBases) (λ _. refl) (λ _. refl)) (λ _. refl)
 
-lineMoved-n : (s : List ℕ) (w : StoredNet) (x : Line) → lineMoved s w x .net .n ≡ w .n
+line-moved-n : (s : List ℕ) (w : StoredNet) (x : Line) → lineMoved s w x .net .n ≡ w .n
 unfolding lineMoved
-lineMoved-n s w (Start b next) = moved-n w (starts b outputRoom)
-lineMoved-n s w (Carry a b k next) = moved-n w (carry a b k outputRoom)
-lineMoved-n s w (Forge a b i count next) = moved-n w (forge a b (hexBytes count (drop i s)) outputRoom)
-lineMoved-n s w Wrong = refl
+line-moved-n s w (Start b next) = moved-n w (starts b outputRoom)
+line-moved-n s w (Carry a b k next) = moved-n w (carry a b k outputRoom)
+line-moved-n s w (Forge a b i count next) = moved-n w (forge a b (hexBytes count (drop i s)) outputRoom)
+line-moved-n s w Wrong = refl
 
 -- a line keeps the number of bases and takes one number at most
 abbrev pub AtMostOneLine : StoredNet → StoredNet → Type 0
@@ -186,7 +186,8 @@ pub next-one-line : (s : List ℕ) (p : StoredNet) → AtMostOneLine p (nextLine
 unfolding nextLine unlessRefused
 next-one-line s p = choose-ind (AtMostOneLine p) (eqb (p .refusal) 0)
     (λ _. choose-ind (AtMostOneLine p) (leb (length s) (p .at)) (λ _. (refl, omega arith))
-    (λ _. subst (AtMostOneLine p) (sym (line-advances s x p)) (advanced-one-line p _ (nextOf x) (lineMoved-n s p x)))) (λ _. (refl, omega arith))
+    (λ _. subst (AtMostOneLine p) (sym (line-advances s x p)) (advanced-one-line p _ (nextOf x) (line-moved-n s p x))))
+    (λ _. (refl, omega arith))
   where
     x : Line
     x = eventLine (p .n) s (p .at)
