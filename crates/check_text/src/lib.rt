@@ -107,8 +107,8 @@ pub fn prime(b: u8, base: Base) {
     reasons(b, base, short, 0 < suspected);
 }
 
-// Of a base that had sent its Verify-Final: the second Correct-Final of a list would have it send one. That it sent was for another list, as
-// a base votes for a list with the second Correct-Final of it.
+// Of a base that had sent its Verify-Final: the second Correct-Final of a list would have it send one. It sent that for another list, as a
+// base votes for a list with the second Correct-Final of it.
 pub fn sent_before(b: u8, base: Base, kind: u8, v: [u32; MOST_BASES]) {
     if kind != CORRECT_FINAL {
         return;
