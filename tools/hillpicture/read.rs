@@ -152,7 +152,7 @@ impl Reader {
             }
             // The messages that wait between two bases; the report has their number.
             ["waiting", ref pair @ ..] if pair.first() == Some(&"from") && self.has_ids() && self.report.is_empty() => {
-                self.pairs.push(pair.join(" "));
+                self.pairs.push(pair.join(" ").replace(", by number:", ":"));
             }
             ["waiting", waiting] if self.has_ids() && self.report.len() == self.ids.len() => {
                 let (bases, pairs) = (std::mem::take(&mut self.report), std::mem::take(&mut self.pairs));
