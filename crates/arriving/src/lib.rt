@@ -2,13 +2,13 @@
 use change::Change;
 use change::refused;
 use decoding::identifiers;
+use limits::IDENTIFIER_BYTES;
 use protocol::Base;
 use reader::Reading;
 use reader::read;
 use soundness::refusals::place_refusal;
 use soundness::refusals::record_refusal;
 use stepping::step;
-use stretch::body;
 ghost use lib.ListN.{length};
 ghost use Rattle.protocol.specs.Steps.{arrival};
 ghost use Rattle.change.specs.Change.{Does};
@@ -26,12 +26,8 @@ pub fn arrive(base: Base, link: usize, burst: &[u8], out: &mut [u8]) -> Change
     let i = link - 1;
     match read(n, burst) {
         Reading::Refused(number) => refused(base, number),
-        Reading::Message {
-            kind,
-            count: _,
-            start: _,
-        } => {
-            let ids = identifiers(body(n, burst));
+        Reading::Message { kind, count, start } => {
+            let ids = identifiers(&burst[start..start + IDENTIFIER_BYTES * count]);
             step(base, i, kind, ids, out)
         }
     }
