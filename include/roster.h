@@ -1,31 +1,37 @@
 /* A roster agreed by bases over faulty links: one base's engine, its frames, and the replay of a whole net.
  *
- * docs/HOW-A-BASE-DECIDES.md lists what an integrator has to do, step by step.
+ * docs/HOW-A-BASE-DECIDES.md lists what an integrator has to do, step by step; docs/RULES.md has the bytes of a frame.
  *
  * Linking. A base's calls are in libroster_c.a (`rt staticlib roster_c` writes it to target/staticlib/); roster_replay alone is in
  * libreplay_c.a (`rt staticlib replay_c`), as a base in the field replays nothing. Neither needs the other, and one program may link both.
  * They are for x86-64 with the System V calling convention: the stack is aligned to 16 bytes at a call, SSE2 is on, and the 128 bytes
  * below the stack pointer are in use (an interrupt needs a stack of its own); the kit builds for no other machine. They take memcpy and
- * memset from the platform and nothing else: no other library, no heap, no state of their own. Different records may be used by different
- * threads at the same time.
+ * memset from the platform, libreplay_c.a also memmove, and nothing else: no other library, no heap, no state of their own. Different
+ * records may be used by different threads at the same time. Where the compiler lays the structs out otherwise (-fpack-struct), this header
+ * does not compile.
  *
  * What is lent. A call reads and writes what it is lent and nothing else. A record's pointer is never NULL; any other has to be valid for
  * the length given with it, and may be NULL where that length is 0. Records and lists of identifiers are aligned as C aligns them; bytes
  * need no alignment. What is lent to one call must not overlap. Start and arrive store the whole record, the same bytes where nothing
  * changes: it lies in writable memory, one call at a time, and nobody reads it meanwhile.
  *
- * What is not fit. No caller has to test contents or lengths first: what is not fit is turned down by its number (enum roster_refusal),
- * and a call that is turned down changes nothing and starts nobody. 1 to 6 are mistakes around the library; 7 to 12 are bursts that are no
- * frames: drop them. A frame has no checksum. The transport has to bring one: an altered burst that still reads as a frame makes its link
- * one of the t for good. (C cuts a number to its parameter's type before the call: a kind has 8 bits, an identifier 32.)
+ * What is not fit. No caller has to test contents or lengths first: what is not fit is turned down (ROSTER_REFUSED) by its number (enum
+ * roster_refusal), and a call that is turned down changes nothing and starts nobody. 1 to 6 are mistakes around the library; 7 to 12 are
+ * bursts that are no frames: drop them, and do not acknowledge them. Over a good link with a checksum they do not come, but for a list
+ * from a base that was made with another n (9). A frame has no checksum. The transport has to bring one: an altered burst that still reads
+ * as a frame makes its link one of the t for good. Nor does a frame name its sender, its link or its net: the transport has to know on
+ * which link a burst came, and lets no frame through that was sent before the records of this net were made. (C cuts a number to its
+ * parameter's type before the call: a kind has 8 bits, an identifier 32.)
  *
  * What to do with an answer. The frames of an answer stand one after another at the front of the output. Send each of them, as a burst
  * of its own, on every link of the base: after a start as after an arrival, where the answer is discarded as where it is accepted. (An
  * idle base starts on its first arrival, and the two frames of its start are answered even if that arrival is discarded.) Of two frames
- * in one burst the first is skipped as what stands before a frame, and no number tells. Order and repeats do no harm.
+ * in one burst the first is skipped as what stands before a frame, and no number tells. The order of arrivals does no harm, nor does a
+ * burst that comes again: it is discarded (that a good link may repeat is tested, and not part of the theorem).
  *
  * Every frame has to arrive at last over every good link. The library has no clock and sends nothing again: a frame that was lost, or
- * dropped as damaged, is sent again by the transport, which knows by its own acknowledgement. A link that loses one for ever is faulty,
+ * dropped as damaged, is sent again by the transport, which knows by its own acknowledgement: of every burst that was accepted or
+ * discarded, with or without frames. The library never tells that a frame is no longer needed. A link that loses one for ever is faulty,
  * one of the t; if there are more, bases may run on for ever.
  *
  * A base has stopped once its state is prime or secondary; only then does it have a final list and a leader. Send the frames of the
@@ -37,8 +43,10 @@
  * store the record and the frames together, in one step, before the burst is acknowledged and before the first of the frames is sent. A
  * call that is turned down, or discarded without frames, leaves the record as it was.
  * The record may be stored as its bytes, all of which belong to fields. A record that is read back and is not sound is turned down by 4
- * (by 1 to 3 for its n, t or own identifier); roster_leader tells so without changing it. A sound one is taken for the base's own:
- * whether it is the one that the last call left is the storage's to say.
+ * (by 1 to 3 for its n, t or own identifier); roster_leader tells so without changing it. A sound one is taken for the base's own, and a
+ * changed identifier often leaves it sound: store a checksum beside it. A base whose record is lost or damaged takes no further part in
+ * this net; a new net is begun with new records at all bases. roster_start may be called at every boot, on the record that was restored:
+ * a base that has started discards it.
  */
 #ifndef ROSTER_H
 #define ROSTER_H
@@ -69,8 +77,8 @@ extern "C" {
 #define ROSTER_LINE_ROOM (37 + 11 * ROSTER_MOST_BASES)                  /* bytes for any line of a report */
 #define ROSTER_REPORT_ROOM ((ROSTER_MOST_BASES + 1) * ROSTER_LINE_ROOM) /* bytes to lend to roster_replay */
 
-/* The most stack that a call takes, in bytes, with what its answer takes in the caller and without what memcpy and memset take.
- * tests/figures measures it and holds it to this. */
+/* The most stack that a call takes, in bytes, with what its answer takes in the caller and without what memcpy, memset and memmove take,
+ * or a dynamic linker at their first call. tests/figures measures it and holds it to this. */
 #define ROSTER_STACK_IDLE 5000
 #define ROSTER_STACK_START 9000
 #define ROSTER_STACK_ARRIVE 12000
@@ -163,6 +171,15 @@ typedef struct roster_put {
     uint8_t refusal; /* or zero */
     size_t length;   /* of the frame; zero where the call was turned down */
 } roster_put;
+
+/* The library's layout: an array of no valid size where the compiler has another. */
+typedef char roster_layout_link[sizeof(roster_link) == 4 + 4 * ROSTER_LIST_ROOM + 4 * ROSTER_MOST_BASES + 4 ? 1 : -1];
+typedef char roster_layout_base[sizeof(roster_base) == 8 + 4 * ROSTER_MOST_BASES + ROSTER_MOST_LINKS * sizeof(roster_link) ? 1 : -1];
+typedef char roster_layout_made[sizeof(roster_made) == 4 + sizeof(roster_base) ? 1 : -1];
+typedef char roster_layout_answer[sizeof(roster_answer) == 8 + 3 * sizeof(size_t) ? 1 : -1];
+typedef char roster_layout_named[sizeof(roster_named) == 8 ? 1 : -1];
+typedef char roster_layout_taken[sizeof(roster_taken) == 8 + 2 * sizeof(size_t) + 4 * ROSTER_MOST_BASES ? 1 : -1];
+typedef char roster_layout_put[sizeof(roster_put) == 8 + sizeof(size_t) ? 1 : -1];
 
 /* An answer that is not looked at loses the frames or the refusal. */
 #if defined(__GNUC__)

@@ -1,6 +1,7 @@
 //! libroster_c.a and libreplay_c.a for Rust: the sizes, numbers, records and calls of roster.h, and each call with slices. Bring it in as a
 //! module (`#[path = "include/roster.rs"] mod roster;`, from where that file lies) and link the archive
-//! (`rustc --edition 2021 base.rs -L target/staticlib -l static=roster_c`; who calls [`replay`] adds `-l static=replay_c`).
+//! (`rustc --edition 2021 base.rs -L target/staticlib -l static=roster_c`; who calls [`replay`] adds `-l static=replay_c`). With cargo,
+//! build.rs prints `cargo:rustc-link-search=native=FOLDER` and `cargo:rustc-link-lib=static=roster_c`.
 //!
 //! What a call does, touches and is turned down by stands in roster.h. tests/layout holds the two files against each other. It needs
 //! `core` alone.
@@ -21,7 +22,8 @@ pub const LONGEST_SCHEDULE: usize = 65536;
 pub const LINE_ROOM: usize = 37 + 11 * MOST_BASES;
 pub const REPORT_ROOM: usize = (MOST_BASES + 1) * LINE_ROOM;
 
-/// The most stack that a call takes, in bytes, with what its answer takes in the caller and without what memcpy and memset take.
+/// The most stack that a call takes, in bytes, with what its answer takes in the caller and without what memcpy, memset and memmove
+/// take, or a dynamic linker at their first call.
 pub const STACK_IDLE: usize = 5000;
 pub const STACK_START: usize = 9000;
 pub const STACK_ARRIVE: usize = 12000;
