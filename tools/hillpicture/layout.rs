@@ -163,11 +163,12 @@ fn note(event: &Event, part: Part, names: &Names) -> Vec<String> {
         (_, Some(hearing), _) => match &hearing.outcome {
             Outcome::Accepted { besides, replaced } => {
                 let sends = (!by_arrival.is_empty()).then(|| format!("base {at} sends {by_arrival}"));
+                let withheld = event.withheld.as_ref().map(|why| format!("base {at} sends no F: {why}"));
                 let besides = match replaced {
                     Some(vote) => Some(format!("{besides} {}", names.message(vote))),
                     None => (!besides.is_empty()).then(|| besides.clone()),
                 };
-                besides.into_iter().chain(sends).collect()
+                besides.into_iter().chain(sends).chain(withheld).collect()
             }
             Outcome::Discarded(why) => vec![format!("discarded: {why}")],
             Outcome::Refused(why) => vec![format!("refused by {why}")],

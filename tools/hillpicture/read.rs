@@ -118,7 +118,8 @@ impl Reader {
         };
         let told = vec![whole.to_string()];
         let line = self.lines;
-        let event = Event { line, cause, at, starts: false, hearing: None, broadcasts: Vec::new(), check: None, stop: None, told };
+        let (broadcasts, withheld) = (Vec::new(), None);
+        let event = Event { line, cause, at, starts: false, hearing: None, broadcasts, withheld, check: None, stop: None, told };
         let between_two = event.from() != Some(at);
         self.events.push(event);
         between_two.then_some(())
@@ -203,6 +204,8 @@ fn take_outcome(event: &mut Event, net: Net, rest: &str) -> Option<()> {
             let number = number.strip_suffix(':')?.parse().ok()?;
             event.broadcasts.push(Broadcast { number, message: message_of(message, net.n)? });
         }
+        // Up to the comma: a row has little room, and the trace's own words are shown besides.
+        ["sends", "no", "Verify-Final:", ref why @ ..] => event.withheld = why.join(" ").split(',').next().map(str::to_string),
         ["stops:", ref state @ ..] => match state_of(state, net.n)? {
             State::Stopped(stop) => event.stop = Some(stop),
             _ => return None,

@@ -51,6 +51,8 @@ pub struct Event {
     pub starts: bool,
     pub hearing: Option<Hearing>,
     pub broadcasts: Vec<Broadcast>,
+    /// Why the base sends no Verify-Final, where the trace says so.
+    pub withheld: Option<String>,
     pub check: Option<Check>,
     pub stop: Option<Stop>,
     /// The trace's own lines.
