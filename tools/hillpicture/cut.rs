@@ -46,8 +46,9 @@ impl Cut {
             End::Report { bases, .. } if whole_end => bases.clone(),
             _ => trace.states_after(until),
         };
+        let told = Cut { lines: self.lines.map(|(first, last)| (first, last.min(trace.last_line).max(first))), ..self.clone() }.told();
         let told_on_a_page = Cut { lines: None, ..self.clone() }.told();
-        Ok(Shown { events, bases, told: self.told(), told_on_a_page, states, whole_end })
+        Ok(Shown { events, bases, told, told_on_a_page, states, whole_end })
     }
 
     /// Why nothing is left to draw: the lines are no events, or the other options leave out what happens there.

@@ -183,7 +183,8 @@ impl Reader {
             self.event_is_whole()?;
         }
         let end = refused.filter(|_| self.report.is_empty()).or(self.end).ok_or("the trace ends without a report or a refusal")?;
-        Ok(Trace { net: self.net, ids: self.ids, faulty: self.faulty, events: self.events, end })
+        let last_line = if let End::Refused { line, .. } = end { line } else { self.lines };
+        Ok(Trace { last_line, net: self.net, ids: self.ids, faulty: self.faulty, events: self.events, end })
     }
 }
 

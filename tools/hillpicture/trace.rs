@@ -8,6 +8,8 @@ pub struct Trace {
     /// The lower base first.
     pub faulty: Vec<(usize, usize)>,
     pub events: Vec<Event>,
+    /// The schedule's last line that was read, which may be the refused one.
+    pub last_line: usize,
     pub end: End,
 }
 
