@@ -77,13 +77,14 @@ fn draw_above(svg: &mut Svg, chart: &Chart, page: &Page) -> i32 {
     }
 }
 
-/// "Lines 40 to 90, what is heard at base 3.", and the messages' letters.
+/// "Lines 40 to 90, what is heard at base 3.", the messages' letters, and the signs.
 fn under_title(chart: &Chart, events: &[usize]) -> Vec<String> {
     let (Some(&first), Some(&last)) = (events.first(), events.last()) else { return vec!["The end.".to_string()] };
     let line = |event: usize| chart.trace.events[event].line;
     let told = chart.shown.told_on_a_page.as_ref().map_or(String::new(), |told| format!(", {told}"));
     let letters = "A: Announce. V: Verify. C: Correct-Final. F: Verify-Final.";
-    vec![format!("Lines {} to {}{told}.", line(first), line(last)), letters.to_string()]
+    let signs = "Dashed: faulty link. Zigzag: forged. ×: discarded. ✓: figure met. P: prime. S: secondary.";
+    vec![format!("Lines {} to {}{told}.", line(first), line(last)), letters.to_string(), signs.to_string()]
 }
 
 fn html(title: &str, paper: &Paper, pages: &[String]) -> String {
