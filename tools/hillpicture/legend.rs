@@ -87,7 +87,7 @@ pub fn draw(svg: &mut Svg, trace: &Trace, shown: &Shown, names: &Names) -> i32 {
 /// The words of the schedule's lines and of the checks that no sign stands for.
 fn explained(svg: &mut Svg, mut y: i32) -> i32 {
     let carried = "carry a b k: the k-th broadcast of base a reaches base b. A base numbers its broadcasts from 1; a base that starts";
-    let numbers = "broadcasts its Announce (1) and the Verify of its own identifier (2).";
+    let numbers = "broadcasts its Announce (no. 1) and the Verify of its own identifier (no. 2).";
     let forged = "forge a b: bytes arrive at base b as if from base a.";
     let certified = "certified: the own identifier and those announced on a link.";
     let sum = "sum: for each of them one, and one for each link that holds a Verify of it.";

@@ -91,9 +91,9 @@ impl Names {
         }
     }
 
-    /// "1: A 500, 2: V 500", to be broken behind a comma only.
+    /// "no. 1: A 500, no. 2: V 500", to be broken behind a comma only.
     pub fn broadcasts(&self, broadcasts: &[Broadcast]) -> String {
-        let each = |broadcast: &Broadcast| format!("{}: {}", broadcast.number, self.message(&broadcast.message)).replace(' ', NO_BREAK);
+        let each = |broadcast: &Broadcast| format!("no. {}: {}", broadcast.number, self.message(&broadcast.message)).replace(' ', NO_BREAK);
         broadcasts.iter().map(each).collect::<Vec<_>>().join(", ")
     }
 
