@@ -94,8 +94,9 @@ fn explained(svg: &mut Svg, mut y: i32) -> i32 {
     let suspects = "suspects: pairs of certified identifiers where the link that announced one holds no Verify of the other.";
     let tally = "tally: links that hold a Correct-Final or a Verify-Final of the list that has just arrived.";
     let correct_finals = "C-Finals: those of them that hold a Correct-Final.";
+    let mouse = "In a browser, resting the mouse on a row shows its lines of the trace, where the suspect pairs are named.";
     let events = [format!("{carried} {numbers}"), forged.to_string()];
-    let checks = [format!("{certified} {sum}"), suspects.to_string(), format!("{tally} {correct_finals}")];
+    let checks = [format!("{certified} {sum}"), suspects.to_string(), format!("{tally} {correct_finals}"), mouse.to_string()];
     for sentence in events.iter().chain(&checks) {
         for line in wrapped_to(sentence, PLAIN, WIDTH) {
             svg.text("quiet", Anchor::Start, MARGIN, y, &line);
