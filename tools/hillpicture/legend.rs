@@ -41,7 +41,7 @@ fn faulty(trace: &Trace) -> String {
 fn up_to_refused(trace: &Trace) -> String {
     match trace.end {
         End::Refused { line, .. } if !trace.events.is_empty() => {
-            format!("Line {line} is refused, and the box at the end says why: events up to it are shown. ")
+            format!("Line {line} is refused, and the box at the end says why. ")
         }
         _ => String::new(),
     }

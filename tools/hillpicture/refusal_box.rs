@@ -68,7 +68,7 @@ fn what_is_shown(trace: &Trace, shown: &Shown) -> &'static str {
     match (trace.events.is_empty(), shown.events.is_empty(), shown.told.is_some()) {
         (true, ..) => "Nothing happened before it.",
         (false, true, _) => "Nothing of what the lines before it did is in this part.",
-        (false, false, true) => "The picture shows a part of what the lines before it did.",
+        (false, false, true) => "What the lines before it did is drawn as far as the options ask for it.",
         (false, false, false) => "The picture shows what the lines before it did.",
     }
 }
