@@ -1,7 +1,7 @@
 // The line of a base in a report. Where there is no room for any line, nothing is written and the place stays.
 use print::has_room;
-use print_fields::put_field;
 use print::put_text;
+use print_fields::put_field;
 use protocol::Base;
 use report::LINE_ROOM;
 use state_text::put_state;

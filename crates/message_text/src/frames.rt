@@ -40,7 +40,12 @@ fn shown(length: usize, next: usize, stops: bool, last: bool) -> usize {
 // The two frames of a start.
 pub fn of_start(b: u8, n: u8, made: usize, answer: CallAnswer, frames: &[u8]) {
     broadcast(b, n, plus(made, 1), part(frames, 0, answer.first));
-    broadcast(b, n, plus(made, 2), part(frames, answer.first, answer.second));
+    broadcast(
+        b,
+        n,
+        plus(made, 2),
+        part(frames, answer.first, answer.second),
+    );
 }
 
 // The frame behind those of a start: an idle base does not stop by its first message.

@@ -7,8 +7,8 @@ use crate::pairs::lacking;
 use crate::pairs::lacks;
 use crate::pairs::more;
 use certified::link_count;
-use parts::plus;
 use output::text;
+use parts::plus;
 use protocol::Base;
 use protocol::Link;
 
