@@ -7,7 +7,7 @@ use native.Mathlib.Numerals.{add-one}
 use native.Mathlib.Omega.{arith}
 use borrow.Author.Tests.{lt-ltb}
 use lib.Dec.{ltb}
-use lib.ListN.{length, take, set, length-map, length-take, length-set, length-append}
+use lib.ListN.{length, take, set, length-map, length-set, length-append}
 use lib.Seq.{take-suc-set}
 use Rattle.limits.specs.Limits.{longestFrame}
 use Rattle.lists.specs.Choice.Laws.{choose-yes, choose-ind}
@@ -16,6 +16,7 @@ use Rattle.frame.specs.Encoding.{encode}
 use Rattle.protocol.specs.Steps.{Done}
 use Rattle.node.specs.declared.Node.{Node}
 use Rattle.node.specs.Node.{mostBroadcasts, written, logOf, storedFrame, joined, joinedAll, withBase, nodeAfter}
+use Rattle.node.specs.Node.Log.{log-length}
 use Rattle.node.specs.Node.Memory.{SizedNode}
 
 -- ---- what joining broadcasts leaves alone
@@ -51,8 +52,7 @@ map-snoc f [] x = refl
 map-snoc {B = B} f (y ∷ l) x = ap (λ (k : List B). f y ∷ k) (map-snoc f l x)
 
 broadcasts-below : (v : Node) → SizedNode v → length (logOf v) < mostBroadcasts → v .count < mostBroadcasts
-unfolding logOf
-broadcasts-below v Z h = omega (arith, length-map (take (v .count) (v .frames)) written, length-take (v .count) (v .frames), Z .frames)
+broadcasts-below v Z h = omega (arith, log-length v, Z .frames)
 
 joined-log : (v : Node) (bytes : List ℕ)
     → SizedNode v → length (logOf v) < mostBroadcasts → logOf (joined v bytes) ≡ logOf v ++ (bytes ∷ [])

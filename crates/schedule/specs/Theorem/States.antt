@@ -2,12 +2,12 @@
 -- agreement holds of it.
 use Prim.Native.Nat.{ℕ, _≤_}
 use mathlib.Core.Path.{_≡_, refl, sym, ap, ap₂, _∙_, subst}
-use mathlib.Core.Bool.{Bool, true, false}
 use mathlib.Core.List.{List, _++_}
 use native.Mathlib.Omega.{arith}
 use borrow.Author.Tests.{eqb-false}
 use lib.Dec.{eqb, leb}
 use Rattle.lists.specs.Choice.{choose}
+use Rattle.lists.specs.Choice.Laws.{choose-same}
 use Rattle.lists.specs.Lists.{sort}
 use Rattle.print.specs.Decimal.{fieldText}
 use Rattle.protocol.specs.declared.Base.{Base}
@@ -48,11 +48,6 @@ pub record StatesAgree (s : List ℕ) (st : Progress) : Type 0 where
       → (b : ℕ) → BaseOf (st .n) b → 2 ≤ st .net .base b .state
 
 -- ---- the text of a base
-choose-same : {A : Type 0} (t : Bool) {a b c d : A} → (t ≡ true → a ≡ c) → (t ≡ false → b ≡ d) → choose t a b ≡ choose t c d
-unfolding choose
-choose-same true f g = f refl
-choose-same false f g = g refl
-
 roster-is : (l ids : List ℕ) → l ≡ sort ids → leaderOf l ≡ leaderOf ids → finalText l ≡ rosterText ids
 unfolding finalText rosterText
 roster-is l ids e f = ap₂ (λ (x : List ℕ) (v : ℕ). listText x ++ fieldText leaderText v) e f
