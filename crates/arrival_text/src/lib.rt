@@ -48,7 +48,7 @@ fn refusal(number: u8, burst: &[u8]) {
     output::text(b"\n");
 }
 
-pub fn refused(b: u8, arrival: Arrival, burst: &[u8], number: u8) {
+pub fn say_refused(b: u8, arrival: Arrival, burst: &[u8], number: u8) {
     say::base(b, b" hears ");
     say::byte_count(burst.len());
     on_link(arrival, b": refused by ");
@@ -61,7 +61,7 @@ fn discards(b: u8, base: Base, held: Link, arrival: Arrival, burst: &[u8]) {
     let ids = taken.ids;
     hears(b, base.n, burst);
     on_link(arrival, b": discarded, ");
-    reason::discarded(base, held, taken.kind, ids[0]);
+    reason::say_discarded(base, held, taken.kind, ids[0]);
 }
 
 // A Correct-Final takes the place of the Verify-Final that its link held.
@@ -74,7 +74,7 @@ fn replaces(n: u8, held: Link, kind: u8) {
     }
     output::text(b", in place of the link's Verify-Final of");
     let list = held.list;
-    say::identifiers(list, n as usize);
+    say::each_identifier(list, n as usize);
 }
 
 fn accepts(b: u8, n: u8, held: Link, arrival: Arrival, burst: &[u8]) {
@@ -85,7 +85,7 @@ fn accepts(b: u8, n: u8, held: Link, arrival: Arrival, burst: &[u8]) {
 }
 
 // The message that was not refused.
-pub fn heard(b: u8, base: Base, arrival: Arrival, accepted: bool, burst: &[u8]) {
+pub fn say_heard(b: u8, base: Base, arrival: Arrival, accepted: bool, burst: &[u8]) {
     let held = link_at(base, arrival.link);
     if accepted {
         accepts(b, base.n, held, arrival, burst);

@@ -72,7 +72,7 @@ fn of_message(base: Base, held: Link, kind: u8, g: u32) -> usize {
     }
 }
 
-pub(crate) fn discarded(base: Base, held: Link, kind: u8, g: u32) {
+pub(crate) fn say_discarded(base: Base, held: Link, kind: u8, g: u32) {
     text(row(&REASONS, of_message(base, held, kind, g)));
     text(b"\n");
 }

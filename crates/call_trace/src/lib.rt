@@ -1,8 +1,8 @@
 // What a start or an arrival did, told on standard output: what was heard and broadcast, the figures of the check, and whether the base
 // stops. What it tells are answers of the proved calls on the base as it was before.
 use arrival_text::Arrival;
-use arrival_text::heard;
-use arrival_text::refused;
+use arrival_text::say_heard;
+use arrival_text::say_refused;
 use arriving::arrive;
 use c_answers::ACCEPTED;
 use c_answers::CallAnswer;
@@ -16,9 +16,9 @@ use leader::leader_of;
 use limits::MOST_BASES;
 use limits::OUTPUT_ROOM;
 use message_text::frames::Caller;
-use message_text::frames::behind_start;
-use message_text::frames::broadcasts;
 use message_text::frames::of_start;
+use message_text::frames::say_behind_start;
+use message_text::frames::say_broadcasts;
 use message_text::say;
 use protocol::Base;
 use protocol::IDLE;
@@ -35,7 +35,7 @@ fn state_word(state: u8) {
 fn stop(b: u8, n: u8, state: u8, list: [u32; MOST_BASES]) {
     say::base(b, b" stops: ");
     state_word(state);
-    say::identifiers(list, n as usize);
+    say::each_identifier(list, n as usize);
     output::text(b" leader ");
     output::number(leader_of(&list) as usize);
     output::text(b"\n");
@@ -66,7 +66,7 @@ fn stopped(caller: Caller, after: Base, answer: CallAnswer, frames: &[u8]) {
         return;
     }
     let list = after.final_list;
-    broadcasts(caller, answer, true, frames);
+    say_broadcasts(caller, answer, true, frames);
     stop(caller.b, after.n, after.state, list);
 }
 
@@ -102,7 +102,7 @@ fn starts(b: u8, n: u8, made: usize, answer: CallAnswer, frames: &[u8]) {
 
 // What a message led to that an idle base heard first.
 fn answered_first(caller: Caller, after: Base, answer: CallAnswer, burst: &[u8], frames: &[u8]) {
-    behind_start(caller.b, caller.n, caller.made, answer, frames);
+    say_behind_start(caller.b, caller.n, caller.made, answer, frames);
     if answer.outcome == ACCEPTED {
         checked(caller.b, 0, after, burst);
     }
@@ -117,7 +117,7 @@ fn answered(
     burst: &[u8],
     frames: &[u8],
 ) {
-    broadcasts(caller, answer, false, frames);
+    say_broadcasts(caller, answer, false, frames);
     if answer.outcome == ACCEPTED {
         checked(caller.b, sent, after, burst);
         stopped(caller, after, answer, frames);
@@ -131,15 +131,15 @@ pub fn arrival_call(b: u8, base: Base, made: usize, arrival: Arrival, burst: &[u
     let outcome = change.outcome;
     let answer = outcome_numbers(outcome);
     if answer.outcome == REFUSED {
-        return refused(b, arrival, burst, answer.refusal);
+        return say_refused(b, arrival, burst, answer.refusal);
     }
     let after = changed(base, change);
     let caller = caller_of(b, made, after);
     if base.state == IDLE {
         starts(b, base.n, made, answer, &frames);
-        heard(b, base, arrival, answer.outcome == ACCEPTED, burst);
+        say_heard(b, base, arrival, answer.outcome == ACCEPTED, burst);
         return answered_first(caller, after, answer, burst, &frames);
     }
-    heard(b, base, arrival, answer.outcome == ACCEPTED, burst);
+    say_heard(b, base, arrival, answer.outcome == ACCEPTED, burst);
     answered(caller, base.sent, after, answer, burst, &frames);
 }

@@ -124,7 +124,7 @@ pub fn sent_before(b: u8, base: Base, kind: u8, v: [u32; MOST_BASES]) {
 // On the first n identifiers of v.
 pub fn secondary(b: u8, base: Base, v: [u32; MOST_BASES]) {
     say::base(b, b", secondary check of");
-    say::identifiers(v, base.n as usize);
+    say::each_identifier(v, base.n as usize);
     output::text(b": tally ");
     say::needed(
         list_tally(base, v),

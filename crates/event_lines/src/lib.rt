@@ -47,8 +47,8 @@ fn happen(s: &[u8], sender: Node, receiver: Node, faulty: Faulty, line: Line) ->
 {
     match line {
         Line::Start { base: _, next: _ } => {
-            let told = node_calls::start(receiver);
-            let node = told.node;
+            let answer = node_calls::start_node(receiver);
+            let node = answer.node;
             Reached { refusal: 0, node }
         }
         Line::Carry {

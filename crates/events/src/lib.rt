@@ -5,8 +5,8 @@ use faulty_links::is_good;
 use limits::refusal;
 use marks::heard;
 use node::Node;
-use node::log::broadcast;
 use node::log::broadcasts;
+use node::log::frame_at;
 use node_arrivals::hear_burst;
 use node_arrivals::hear_frame;
 use numbering::link_to;
@@ -51,7 +51,7 @@ pub fn carry(sender: Node, receiver: Node, faulty: Faulty, a: u8, b: u8, k: usiz
     }
     Reached {
         refusal: 0,
-        node: hear_frame(receiver, link_to(b, a), broadcast(sender, k), a, k),
+        node: hear_frame(receiver, link_to(b, a), frame_at(sender, k), a, k),
     }
 }
 

@@ -65,7 +65,7 @@ fn with_digit(value: usize, d: usize) -> usize {
 }
 
 // The decimal number from at on, and the place past the space behind it.
-pub(crate) fn number(text: &[u8], at: usize) -> Decimal {
+pub(crate) fn decimal_at(text: &[u8], at: usize) -> Decimal {
     let mut value: usize = 0;
     let mut i = at;
     while i < text.len() {
@@ -97,7 +97,7 @@ pub(crate) fn hex(text: &[u8], at: usize) -> HexBytes {
     HexBytes { len, bytes }
 }
 
-pub(crate) fn identifiers(text: &[u8], at: usize) -> Ids {
+pub(crate) fn ids_at(text: &[u8], at: usize) -> Ids {
     let mut list = [0u32; IDENTIFIERS];
     let mut place = at;
     let mut len: usize = 0;
@@ -105,7 +105,7 @@ pub(crate) fn identifiers(text: &[u8], at: usize) -> Ids {
         if place >= text.len() {
             return Ids { len, list };
         }
-        let n = number(text, place);
+        let n = decimal_at(text, place);
         list[len] = (n.value % 4294967296) as u32;
         place = n.next;
         len += 1;

@@ -25,22 +25,22 @@ fn one(text: &[u8]) {
     let letter = line::letter(text);
     match letter {
         b'r' => {
-            let n = line::number(text, 2);
+            let n = line::decimal_at(text, 2);
             let burst = line::hex(text, n.next);
             let bytes = burst.bytes;
             show::reading(n.value, line::front(&bytes, burst.len));
         }
         b'w' => written(text),
         b't' => two(text),
-        _ => show::text(text),
+        _ => show::text_line(text),
     }
 }
 
 fn written(text: &[u8]) {
-    let n = line::number(text, 2);
-    let kind = line::number(text, n.next);
-    let room = line::number(text, kind.next);
-    let ids = line::identifiers(text, room.next);
+    let n = line::decimal_at(text, 2);
+    let kind = line::decimal_at(text, n.next);
+    let room = line::decimal_at(text, kind.next);
+    let ids = line::ids_at(text, room.next);
     let list = ids.list;
     let mut output = [0xeeu8; line::BYTES];
     show::written(
@@ -52,11 +52,11 @@ fn written(text: &[u8]) {
 }
 
 fn two(text: &[u8]) {
-    let n = line::number(text, 2);
-    let kind = line::number(text, n.next);
-    let next = line::number(text, kind.next);
-    let room = line::number(text, next.next);
-    let ids = line::identifiers(text, room.next);
+    let n = line::decimal_at(text, 2);
+    let kind = line::decimal_at(text, n.next);
+    let next = line::decimal_at(text, kind.next);
+    let room = line::decimal_at(text, next.next);
+    let ids = line::ids_at(text, room.next);
     let list = ids.list;
     let mut output = [0xeeu8; line::BYTES];
     show::two(

@@ -3,7 +3,7 @@ use limits::MOST_BASES;
 use reader::Reading;
 use writer::Written;
 
-pub(crate) fn text(s: &[u8]) {
+pub(crate) fn text_line(s: &[u8]) {
     io::write_all(1, s);
     line_end();
 }

@@ -14,8 +14,8 @@ unfolding leaderOf
 leader-none l = sym (ap leaderOf (drop-of-length-le l {i = length l} (omega arith)))
 
 -- the places from i − 1 on
-one-more : (l : List ℕ) (i : ℕ) → 0 < i → i ≤ length l → drop (i - 1) l ≡ getD l (i - 1) 0 ∷ drop i l
-one-more l i some h =
+drop-before : (l : List ℕ) (i : ℕ) → 0 < i → i ≤ length l → drop (i - 1) l ≡ getD l (i - 1) 0 ∷ drop i l
+drop-before l i some h =
     let e : suc (i - 1) ≡ i = omega arith in
     drop-cons l (i - 1) 0 (omega arith) ∙ ap (λ (k : ℕ). getD l (i - 1) 0 ∷ drop k l) e
 
@@ -23,10 +23,10 @@ pub leader-new : (l : List ℕ) (i most : ℕ)
     → 0 < i → i ≤ length l → most ≡ leaderOf (drop i l) → most < getD l (i - 1) 0 → getD l (i - 1) 0 ≡ leaderOf (drop (i - 1) l)
 unfolding leaderOf
 leader-new l i most some h e more =
-    sym (ap leaderOf (one-more l i some h) ∙ choose-no _ _ (lt-leb (getD l (i - 1) 0) (leaderOf (drop i l)) (omega arith)))
+    sym (ap leaderOf (drop-before l i some h) ∙ choose-no _ _ (lt-leb (getD l (i - 1) 0) (leaderOf (drop i l)) (omega arith)))
 
 pub leader-same : (l : List ℕ) (i most : ℕ)
     → 0 < i → i ≤ length l → most ≡ leaderOf (drop i l) → getD l (i - 1) 0 ≤ most → most ≡ leaderOf (drop (i - 1) l)
 unfolding leaderOf
 leader-same l i most some h e less = e
-    ∙ sym (ap leaderOf (one-more l i some h) ∙ choose-yes _ _ (le-leb (getD l (i - 1) 0) (leaderOf (drop i l)) (omega arith)))
+    ∙ sym (ap leaderOf (drop-before l i some h) ∙ choose-yes _ _ (le-leb (getD l (i - 1) 0) (leaderOf (drop i l)) (omega arith)))

@@ -10,7 +10,7 @@ use hexadecimal::hex_bytes;
 use lines::event::Line;
 use net::StoredNet;
 use net::nodes::node_at;
-use node::log::broadcast;
+use node::log::frame_at;
 use numbering::link_to;
 use parts::part;
 
@@ -35,7 +35,7 @@ fn arrives(net: StoredNet, b: u8, arrival: Arrival, burst: &[u8]) {
 
 // Broadcast k of base a.
 fn carried(net: StoredNet, a: u8, b: u8, k: usize) {
-    let frame = broadcast(node_at(net, a), k);
+    let frame = frame_at(node_at(net, a), k);
     let bytes = frame.bytes;
     let burst = part(&bytes, 0, frame.len);
     arrives(net, b, arrival_from(a, b, false), burst);

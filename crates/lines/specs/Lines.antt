@@ -20,7 +20,7 @@ use Rattle.lines.specs.declared.bases.Two.the-variants.{Both, Neither}
 use Rattle.lines.specs.declared.event.Line.{Line}
 use Rattle.lines.specs.declared.event.Line.the-variants.{Start, Carry, Forge, Wrong}
 pub mod Laws
-pub mod Told
+pub mod Found
 
 -- ---- bytes and words
 abbrev pub space : ℕ

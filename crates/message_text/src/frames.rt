@@ -13,7 +13,7 @@ pub struct Caller {
 }
 
 // A broadcast of base b, by its number.
-fn broadcast(b: u8, n: u8, number: usize, frame: &[u8]) {
+fn say_broadcast(b: u8, n: u8, number: usize, frame: &[u8]) {
     if frame.len() == 0 {
         return;
     }
@@ -39,8 +39,8 @@ fn shown(length: usize, next: usize, stops: bool, last: bool) -> usize {
 
 // The two frames of a start.
 pub fn of_start(b: u8, n: u8, made: usize, answer: CallAnswer, frames: &[u8]) {
-    broadcast(b, n, plus(made, 1), part(frames, 0, answer.first));
-    broadcast(
+    say_broadcast(b, n, plus(made, 1), part(frames, 0, answer.first));
+    say_broadcast(
         b,
         n,
         plus(made, 2),
@@ -49,21 +49,21 @@ pub fn of_start(b: u8, n: u8, made: usize, answer: CallAnswer, frames: &[u8]) {
 }
 
 // The frame behind those of a start: an idle base does not stop by its first message.
-pub fn behind_start(b: u8, n: u8, made: usize, answer: CallAnswer, frames: &[u8]) {
+pub fn say_behind_start(b: u8, n: u8, made: usize, answer: CallAnswer, frames: &[u8]) {
     let place = plus(answer.first, answer.second);
-    broadcast(b, n, plus(made, 3), part(frames, place, answer.third));
+    say_broadcast(b, n, plus(made, 3), part(frames, place, answer.third));
 }
 
 // The frames of a call, before its check or after it.
-pub fn broadcasts(caller: Caller, answer: CallAnswer, last: bool, frames: &[u8]) {
+pub fn say_broadcasts(caller: Caller, answer: CallAnswer, last: bool, frames: &[u8]) {
     let b = caller.b;
     let n = caller.n;
     let made = caller.made;
     let first = shown(answer.first, answer.second, caller.stops, last);
-    broadcast(b, n, plus(made, 1), part(frames, 0, first));
+    say_broadcast(b, n, plus(made, 1), part(frames, 0, first));
     let second = shown(answer.second, answer.third, caller.stops, last);
-    broadcast(b, n, plus(made, 2), part(frames, answer.first, second));
+    say_broadcast(b, n, plus(made, 2), part(frames, answer.first, second));
     let third = shown(answer.third, 0, caller.stops, last);
     let place = plus(answer.first, answer.second);
-    broadcast(b, n, plus(made, 3), part(frames, place, third));
+    say_broadcast(b, n, plus(made, 3), part(frames, place, third));
 }

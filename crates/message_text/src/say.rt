@@ -38,7 +38,7 @@ pub fn needed(v: usize, asked: usize, words: &[u8]) {
 }
 
 // The first count identifiers, each behind a blank.
-pub fn identifiers(ids: [u32; MOST_BASES], count: usize) {
+pub fn each_identifier(ids: [u32; MOST_BASES], count: usize) {
     let mut i: usize = 0;
     while i < MOST_BASES {
         if count <= i {
@@ -63,5 +63,5 @@ pub fn message(n: u8, burst: &[u8]) {
     let taken = read_numbers(n as usize, burst);
     let ids = taken.ids;
     kind_word(taken.kind);
-    identifiers(ids, taken.count);
+    each_identifier(ids, taken.count);
 }

@@ -19,7 +19,7 @@ pub fn broadcasts(node: Node) -> usize
 }
 
 // The k-th, and an empty frame for one that was not broadcast.
-pub fn broadcast(node: Node, k: usize) -> Frame
+pub fn frame_at(node: Node, k: usize) -> Frame
     ensures { λ r. ⌜ r ≡ frameAt node k ⌝ }
 {
     let mut i: usize = 0;

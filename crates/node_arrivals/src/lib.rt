@@ -33,9 +33,9 @@ pub fn hear_burst(node: Node, link: usize, burst: &[u8], a: u8, k: usize) -> Nod
         return node;
     };
     let ids = identifiers_at(burst, start, count);
-    let told = hear_message(node, link, kind, ids);
-    let after = told.node;
-    if told.refusal != 0 {
+    let answer = hear_message(node, link, kind, ids);
+    let after = answer.node;
+    if answer.refusal != 0 {
         return after;
     }
     mark(after, a, k)

@@ -12,13 +12,13 @@ use Rattle.protocol.specs.Net.{callRefusal}
 use Rattle.c_answers.specs.Numbers.{outcomeNumbers}
 use Rattle.node.specs.declared.Node.{Node}
 use Rattle.node.specs.Node.{joined, withBase, nodeAfter}
-use Rattle.node_calls.specs.declared.Told.{Told}
+use Rattle.node_calls.specs.declared.NodeAnswer.{NodeAnswer}
 pub mod Storable
 pub mod Laws
 
 -- the base after the call, beside the number by which the call was turned down
-unfoldable pub told : Node → Done → Told
-told v d = record { refusal = callRefusal (d .answer); node = nodeAfter v d }
+unfoldable pub nodeAnswer : Node → Done → NodeAnswer
+nodeAnswer v d = record { refusal = callRefusal (d .answer); node = nodeAfter v d }
 
 -- ---- what it wrote
 -- a length of zero stands for no frame
@@ -42,5 +42,5 @@ lengthsIn o = let a = outcomeNumbers o in a .first ∷ (a .second ∷ (a .third 
 abbrev pub Fitting : Outcome → ℕ → Type 0
 Fitting o room = AllFit room 0 (lengthsIn o)
 
-unfoldable pub settledOf : Node → Base → Outcome → List ℕ → Told
-settledOf v b o out = record { refusal = outcomeNumbers o .refusal; node = keptFrom (withBase v b) out 0 (lengthsIn o) }
+unfoldable pub writtenAnswer : Node → Base → Outcome → List ℕ → NodeAnswer
+writtenAnswer v b o out = record { refusal = outcomeNumbers o .refusal; node = keptFrom (withBase v b) out 0 (lengthsIn o) }

@@ -15,42 +15,42 @@ ghost use Rattle.limits.specs.Limits.{outputRoom};
 ghost use Rattle.protocol.specs.Steps as Steps;
 ghost use Rattle.change.specs.Change.{changedBase};
 ghost use Rattle.engine.specs.Hearing.{messageArrival};
-ghost use Rattle.node_calls.specs.Calls.{told, Fitting, settledOf};
+ghost use Rattle.node_calls.specs.Calls.{nodeAnswer, Fitting, writtenAnswer};
 
 // A base after a call on its record, beside the number by which the call was turned down, 0 for none.
-pub struct Told {
+pub struct NodeAnswer {
     pub refusal: u8,
     pub node: Node,
 }
 
 // What a call changed in the record, and what it wrote: a call that is turned down changed and wrote nothing.
-fn settle(node: Node, change: Change, out: &[u8]) -> Told
+fn answered(node: Node, change: Change, out: &[u8]) -> NodeAnswer
     requires { ⌜ Fitting (change .outcome) (length (now out)) ⌝ }
-    ensures { λ r. ⌜ r ≡ settledOf node (changedBase (node .base) change) (change .outcome) (now (out .entry)) ⌝ }
+    ensures { λ r. ⌜ r ≡ writtenAnswer node (changedBase (node .base) change) (change .outcome) (now (out .entry)) ⌝ }
 {
     let base = changed(node.base, change);
     let outcome = change.outcome;
     let answer = outcome_numbers(outcome);
-    Told {
+    NodeAnswer {
         refusal: answer.refusal,
         node: keep_three(node, base, out, answer.first, answer.second, answer.third),
     }
 }
 
 // A start at the base.
-pub fn start(node: Node) -> Told
-    ensures { λ r. ⌜ r ≡ told node (Steps.start (node .base) outputRoom) ⌝ }
+pub fn start_node(node: Node) -> NodeAnswer
+    ensures { λ r. ⌜ r ≡ nodeAnswer node (Steps.start (node .base) outputRoom) ⌝ }
 {
     let mut out = [0u8; OUTPUT_ROOM];
     let change = engine::changes::start(node.base, &mut out);
-    settle(node, change, &out)
+    answered(node, change, &out)
 }
 
 // A message that was read arrives at the base on a link: its kind, and its identifiers with zeros behind.
-pub fn hear_message(node: Node, link: usize, kind: u8, ids: [u32; MOST_BASES]) -> Told
-    ensures { λ r. ⌜ r ≡ told node (messageArrival (node .base) link kind ids outputRoom) ⌝ }
+pub fn hear_message(node: Node, link: usize, kind: u8, ids: [u32; MOST_BASES]) -> NodeAnswer
+    ensures { λ r. ⌜ r ≡ nodeAnswer node (messageArrival (node .base) link kind ids outputRoom) ⌝ }
 {
     let mut out = [0u8; OUTPUT_ROOM];
     let change = engine::changes::hear(node.base, link, kind, ids, &mut out);
-    settle(node, change, &out)
+    answered(node, change, &out)
 }

@@ -22,7 +22,7 @@ use Rattle.protocol.specs.Steps.{begins, startStep, andThen, arrivalStep
 use Rattle.protocol.specs.Steps.{outputRefusal, unless, start, arrivalRefusal, arrival}
 use Rattle.protocol.specs.Numbering.{linkTo}
 use Rattle.protocol.specs.Net.{joins, good, at, broadcast, call, eventRefusal}
-use Rattle.protocol.specs.Net.{callRefusal, refusal, replaced, carriedAfter, settled, happens}
+use Rattle.protocol.specs.Net.{callRefusal, refusal, replaced, carriedAfter, netAfter, happens}
 use Rattle.protocol.specs.Net.{run, started, saysCorrect, hasStopped, waitingFrom, waiting}
 
 unfoldable pub computed : Unit {0}
@@ -40,6 +40,6 @@ unfolding
     primeHolds secondaryHolds stops primeCheck secondaryCheck
     onAnnounce onVerify votes vote onCorrectFinal onVerifyFinal onMessage
     begins startStep andThen arrivalStep linkRefusal outputRefusal unless start arrivalRefusal arrival
-    linkTo joins good at broadcast call eventRefusal callRefusal refusal replaced carriedAfter settled happens
+    linkTo joins good at broadcast call eventRefusal callRefusal refusal replaced carriedAfter netAfter happens
     run started saysCorrect hasStopped waitingFrom waiting
 computed = tt

@@ -90,8 +90,8 @@ carriedAfter W (carry a b k room) x y j = or (and (eqb x a) (and (eqb y b) (eqb 
 carriedAfter W (forge a b bytes room) x y j = W .carried x y j
 
 -- "Frames written join b's broadcasts in their order, and a carry joins the carries made."
-unfoldable pub settled : Net → Event → Net
-settled W e = let d = call W e in record {
+unfoldable pub netAfter : Net → Event → Net
+netAfter W e = let d = call W e in record {
   base = replaced (at e) (d .base) (W .base);
   log = replaced (at e) (W .log (at e) ++ map encode (d .says)) (W .log);
   carried = carriedAfter W e;
@@ -99,7 +99,7 @@ settled W e = let d = call W e in record {
 
 -- "An event that is turned down, by 16 to 18 or by the base's call, changes nothing"
 unfoldable pub happens : List Pair → Net → Event → Net
-happens faulty W e = choose (eqb (refusal faulty W e) 0) (settled W e) W
+happens faulty W e = choose (eqb (refusal faulty W e) 0) (netAfter W e) W
 
 -- a whole history
 unfoldable pub run : List Pair → Net → List Event → Net

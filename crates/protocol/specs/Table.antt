@@ -211,9 +211,9 @@ seenAfter seen d =
 unfoldable pub tallied : ListTally → Base → Base → Bool
 tallied tally b c = and (eqb (listTally b (tally .list)) (tally .before)) (eqb (listTally c (tally .list)) (tally .after))
 
-unfoldable pub holds : Row → Bool
-holds row = and (seenAfter (row .seen) (done row)) (tallied (row .tally) (row .given) (done row .base))
+unfoldable pub rowHolds : Row → Bool
+rowHolds row = and (seenAfter (row .seen) (done row)) (tallied (row .tally) (row .given) (done row .base))
 
 unfoldable pub allHold : List Row → Bool
 allHold [] = true
-allHold (row ∷ rest) = and (holds row) (allHold rest)
+allHold (row ∷ rest) = and (rowHolds row) (allHold rest)

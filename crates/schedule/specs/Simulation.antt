@@ -19,7 +19,7 @@ use Rattle.lines.specs.declared.bases.Two.the-variants.{Both, Neither}
 use Rattle.lines.specs.declared.event.Line.{Line}
 use Rattle.lines.specs.declared.event.Line.the-variants.{Start, Carry, Forge, Wrong}
 use Rattle.lines.specs.Lines.{afterNumber, afterTwo, netLine, idLine, faultyLine, eventLine}
-use Rattle.lines.specs.Lines.Told.{EventTold, event-told}
+use Rattle.lines.specs.Lines.Found.{EventFound, event-found}
 use Rattle.protocol.specs.Net.{Event, starts, carry, forge}
 use Rattle.protocol.specs.Agreement.{Proper}
 use Rattle.schedule.specs.Walk.{
@@ -149,22 +149,22 @@ module _ {P Q : Type 0} (K : Walkable P) (L : Walkable Q) (R : P → Q → Type 
   event-both e next p q h proper F = judged-both (K .eventNumber e p) (S .eventNumber e F) F (λ _. S .happened e next h proper F)
 
   line-both : (s : List ℕ) (i : ℕ) (x : Line) (p : P) (q : Q)
-      → EventTold (L .n q) s i x → E q → R p q → R (lineStep K s x p) (lineStep L s x q)
+      → EventFound (L .n q) s i x → E q → R p q → R (lineStep K s x p) (lineStep L s x q)
   unfolding lineStep
-  line-both s i (Start b next) p q told h F = event-both (starts b outputRoom) next p q h (proper-start (L .n q) b outputRoom (told .0)) F
-  line-both s i (Carry a b k next) p q told h F =
-      event-both (carry a b k outputRoom) next p q h (proper-carry (L .n q) a b k outputRoom (told .0)) F
-  line-both s i (Forge a b at count next) p q told h F =
+  line-both s i (Start b next) p q found h F = event-both (starts b outputRoom) next p q h (proper-start (L .n q) b outputRoom (found .0)) F
+  line-both s i (Carry a b k next) p q found h F =
+      event-both (carry a b k outputRoom) next p q h (proper-carry (L .n q) a b k outputRoom (found .0)) F
+  line-both s i (Forge a b at count next) p q found h F =
       event-both (forge a b (hexBytes count (drop at s)) outputRoom)
-      next p q h (proper-forge (L .n q) a b count outputRoom (drop at s) (told .0)) F
-  line-both s i Wrong p q told h F = S .refuse 13 F
+      next p q h (proper-forge (L .n q) a b count outputRoom (drop at s) (found .0)) F
+  line-both s i Wrong p q found h F = S .refuse 13 F
 
   read-both : (s : List ℕ) (p : P) (q : Q) → E q → R p q
       → R (lineStep K s (eventLine (K .n p) s (K .at p)) p) (lineStep L s (eventLine (L .n q) s (L .at q)) q)
   read-both s p q h F =
       subst (λ (i : ℕ). R (lineStep K s (eventLine (K .n p) s (K .at p)) p) (lineStep L s (eventLine (L .n q) s i) q)) (S .at F)
       (subst (λ (n : ℕ). R (lineStep K s (eventLine n s (K .at p)) p) (lineStep L s (eventLine (L .n q) s (K .at p)) q)) (sym (S .n F))
-      (line-both s (K .at p) (eventLine (L .n q) s (K .at p)) p q (event-told (L .n q) s (K .at p)) h F))
+      (line-both s (K .at p) (eventLine (L .n q) s (K .at p)) p q (event-found (L .n q) s (K .at p)) h F))
 
   next-both : (s : List ℕ) (p : P) (q : Q) → Unrefused L E q → R p q → R (nextLine K s p) (nextLine L s q)
   unfolding nextLine

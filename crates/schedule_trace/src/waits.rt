@@ -22,7 +22,7 @@ fn numbers(node: Node, a: u8, count: usize) {
     text(b"\n");
 }
 
-fn told(receiver: Node, a: u8, b: u8, count: usize) {
+fn unheard_line(receiver: Node, a: u8, b: u8, count: usize) {
     if unheard(receiver, a, count) == 0 {
         return;
     }
@@ -40,7 +40,7 @@ fn between(net: StoredNet, a: u8, b: u8) {
     }
     let faulty = net.faulty;
     if is_good(faulty, a, b) {
-        told(node_at(net, b), a, b, broadcasts(node_at(net, a)));
+        unheard_line(node_at(net, b), a, b, broadcasts(node_at(net, a)));
     }
 }
 

@@ -25,7 +25,7 @@ use Rattle.broadcasting.specs.Broadcasting.{frameIn, lastFrame, acceptedWith}
 pub mod Places
 pub mod Laws
 pub mod Frames
-pub mod Told
+pub mod Response
 
 -- a base of a net, and one of its links
 pub record Place (b : Base) (i : ℕ) : Type 0 where
@@ -46,20 +46,20 @@ decidedAt b i a kind ids =
     choose (a .accepted) (decisionOf (withLink (begun b) i (a .link)) kind ids) (runsOn (begun b) 0 (b .sent))
 
 -- the frames that it broadcasts, and the answer with their lengths
-unfoldable pub toldFrames : ℕ → Bool → Decision → List ℕ → ℕ → List ℕ
-toldFrames n accepted d ids room =
+unfoldable pub responseFrames : ℕ → Bool → Decision → List ℕ → ℕ → List ℕ
+responseFrames n accepted d ids room =
     choose accepted (frameIn n (d .first) ids room ++ lastFrame n (d .first) ids (d .stops) (d .«final_list») room) []
 
-unfoldable pub toldOutcome : ℕ → Bool → Decision → List ℕ → ℕ → Outcome
-toldOutcome n accepted d ids room =
+unfoldable pub responseOutcome : ℕ → Bool → Decision → List ℕ → ℕ → Outcome
+responseOutcome n accepted d ids room =
     choose accepted
     (acceptedWith (length (frameIn n (d .first) ids room)) (length (lastFrame n (d .first) ids (d .stops) (d .«final_list») room)))
     (Discarded 0 0 0)
 
 -- what is then to be set in its record
-unfoldable pub toldChange : ℕ → ℕ → Accepted → Decision → List ℕ → ℕ → Change
-toldChange n i a d ids room = record {
-  outcome = toldOutcome n (a .accepted) d ids room;
+unfoldable pub responseChange : ℕ → ℕ → Accepted → Decision → List ℕ → ℕ → Change
+responseChange n i a d ids room = record {
+  outcome = responseOutcome n (a .accepted) d ids room;
   state = d .state;
   sent = d .sent;
   place = i;

@@ -19,7 +19,7 @@ ghost use lib.ListN.{length};
 ghost use Rattle.frame.specs.Encoding.{over};
 ghost use Rattle.protocol.specs.Steps.{withLink};
 ghost use Rattle.protocol.specs.Steps.Cases.{begun};
-ghost use Rattle.settling.specs.Settling.{withinLinks, acceptedAt, decidedAt, toldFrames, toldOutcome, toldChange};
+ghost use Rattle.settling.specs.Settling.{withinLinks, acceptedAt, decidedAt, responseFrames, responseOutcome, responseChange};
 
 // Whether a message is accepted at a link, and the link then.
 pub fn accepted_at(base: Base, i: usize, kind: u8, ids: [u32; MOST_BASES]) -> Accepted
@@ -72,8 +72,8 @@ fn said(
     ids: [u32; MOST_BASES],
     out: &mut [u8],
 ) -> Outcome
-    ensures { λ r. ⌜ (r ≡ toldOutcome n accepted decision ids (length (now (out .entry))))
-        × (now (out .exit) ≡ over (toldFrames n accepted decision ids (length (now (out .entry)))) (now (out .entry))) ⌝ }
+    ensures { λ r. ⌜ (r ≡ responseOutcome n accepted decision ids (length (now (out .entry))))
+        × (now (out .exit) ≡ over (responseFrames n accepted decision ids (length (now (out .entry)))) (now (out .entry))) ⌝ }
 {
     if !accepted {
         return Outcome::Discarded {
@@ -87,7 +87,7 @@ fn said(
 }
 
 // The frames that the base then broadcasts, at the front of the output, and what is to be set in its record.
-pub fn told(
+pub fn respond(
     n: u8,
     i: usize,
     accepted: Accepted,
@@ -95,8 +95,8 @@ pub fn told(
     ids: [u32; MOST_BASES],
     out: &mut [u8],
 ) -> Change
-    ensures { λ r. ⌜ (r ≡ toldChange n i accepted decision ids (length (now (out .entry))))
-        × (now (out .exit) ≡ over (toldFrames n (accepted .accepted) decision ids (length (now (out .entry)))) (now (out .entry))) ⌝ }
+    ensures { λ r. ⌜ (r ≡ responseChange n i accepted decision ids (length (now (out .entry))))
+        × (now (out .exit) ≡ over (responseFrames n (accepted .accepted) decision ids (length (now (out .entry)))) (now (out .entry))) ⌝ }
 {
     let link = accepted.link;
     let list = decision.final_list;

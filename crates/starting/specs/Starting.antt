@@ -11,7 +11,7 @@ use Rattle.change.specs.declared.Change.{Change}
 use Rattle.accepting.specs.declared.Accepted.{Accepted}
 use Rattle.deciding.specs.declared.Decision.{Decision}
 use Rattle.broadcasting.specs.Broadcasting.{behindStart}
-use Rattle.settling.specs.Settling.{toldFrames, toldOutcome}
+use Rattle.settling.specs.Settling.{responseFrames, responseOutcome}
 pub mod Laws
 
 -- "Announce and Verify of its own identifier, in that order", where there is room for both; else nothing
@@ -24,13 +24,13 @@ startLength room = choose (leb (2 * frameBytes 1) room) (frameBytes 1) 0
 
 -- "An idle base starts first": the frames of the start, and behind them those of the message, in the room that is left
 unfoldable pub firstFrames : ℕ → ℕ → Bool → Decision → List ℕ → ℕ → List ℕ
-firstFrames n own accepted d ids room = startFrames own room ++ toldFrames n accepted d ids (room - length (startFrames own room))
+firstFrames n own accepted d ids room = startFrames own room ++ responseFrames n accepted d ids (room - length (startFrames own room))
 
 -- the answer, and what is to be set in the record
 unfoldable pub firstChange : ℕ → ℕ → ℕ → Accepted → Decision → List ℕ → ℕ → Change
 firstChange n own i a d ids room = record {
   outcome = behindStart (startLength room) (startLength room)
-      (toldOutcome n (a .accepted) d ids (room - length (startFrames own room)));
+      (responseOutcome n (a .accepted) d ids (room - length (startFrames own room)));
   state = d .state;
   sent = d .sent;
   place = i;

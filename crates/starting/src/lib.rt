@@ -6,7 +6,7 @@ use deciding::Decision;
 use frame::kind::ANNOUNCE;
 use frame::kind::VERIFY;
 use limits::MOST_BASES;
-use settling::told;
+use settling::respond;
 use two_frames::TwoLengths;
 use two_frames::put_two;
 ghost use mathlib.Core.Path.{_≡_};
@@ -23,8 +23,8 @@ pub fn begin(n: u8, own: u32, out: &mut [u8]) -> TwoLengths
     put_two(ANNOUNCE, VERIFY, n, &ids, out)
 }
 
-// What is told of the first message, behind the two frames of the start.
-pub fn told_first(
+// The response to the first message, behind the two frames of the start.
+pub fn respond_first(
     n: u8,
     own: u32,
     i: usize,
@@ -38,7 +38,7 @@ pub fn told_first(
 {
     let two = begin(n, own, out);
     let start = two.front + two.next;
-    let rest = told(n, i, accepted, decision, ids, &mut out[start..]);
+    let rest = respond(n, i, accepted, decision, ids, &mut out[start..]);
     let answer = rest.outcome;
     let link = rest.link;
     let list = rest.final_list;

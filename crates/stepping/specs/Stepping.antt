@@ -13,7 +13,7 @@ use Rattle.change.specs.declared.Change.{Change}
 use Rattle.change.specs.Change.{changedBase}
 use Rattle.accepting.specs.declared.Accepted.{Accepted}
 use Rattle.deciding.specs.declared.Decision.{Decision}
-use Rattle.settling.specs.Settling.{withinLinks, decidedAt, toldFrames, toldChange}
+use Rattle.settling.specs.Settling.{withinLinks, decidedAt, responseFrames, responseChange}
 use Rattle.starting.specs.Starting.{firstFrames, firstChange}
 pub mod Laws
 pub mod First
@@ -22,11 +22,11 @@ pub mod Arrival
 -- of a base that has not stopped, by what it decides: an idle one starts first
 unfoldable pub unstoppedChange : Base → ℕ → Accepted → Decision → List ℕ → ℕ → Change
 unstoppedChange b i a d ids room =
-    choose (idle b) (firstChange (b .n) (b .own) i a d ids room) (toldChange (b .n) i a d ids room)
+    choose (idle b) (firstChange (b .n) (b .own) i a d ids room) (responseChange (b .n) i a d ids room)
 
 unfoldable pub unstoppedFrames : Base → Accepted → Decision → List ℕ → ℕ → List ℕ
 unstoppedFrames b a d ids room =
-    choose (idle b) (firstFrames (b .n) (b .own) (a .accepted) d ids room) (toldFrames (b .n) (a .accepted) d ids room)
+    choose (idle b) (firstFrames (b .n) (b .own) (a .accepted) d ids room) (responseFrames (b .n) (a .accepted) d ids room)
 
 -- a stopped base discards, and changes nothing
 unfoldable pub stepOutcome : Base → ℕ → Accepted → ℕ → List ℕ → ℕ → Outcome
@@ -41,7 +41,7 @@ unfoldable pub stepFrames : Base → ℕ → Accepted → ℕ → List ℕ → �
 stepFrames b i a kind ids room = choose (stopped b) [] (unstoppedFrames b a (decidedAt b (withinLinks i) a kind ids) ids room)
 
 -- the answer, the record with the change made, and the output are those
-pub record Steps (b : Base) (i : ℕ) (a : Accepted) (kind : ℕ) (ids : List ℕ) (c : Change) (output after : List ℕ) : Type 0 where
+pub record StepsAs (b : Base) (i : ℕ) (a : Accepted) (kind : ℕ) (ids : List ℕ) (c : Change) (output after : List ℕ) : Type 0 where
   pub outcome : c .outcome ≡ stepOutcome b i a kind ids (length output)
   pub base : changedBase b c ≡ stepBase b i a kind ids (length output)
   pub written : after ≡ over (stepFrames b i a kind ids (length output)) output

@@ -7,17 +7,17 @@ use protocol::IDLE;
 use protocol::PRIME;
 use settling::accepted_at;
 use settling::decided;
-use settling::told;
-use starting::told_first;
+use settling::respond;
+use starting::respond_first;
 ghost use mathlib.Core.Path.{_≡_};
 ghost use lib.ListN.{length};
 ghost use Rattle.settling.specs.Settling.{withinLinks, acceptedAt};
-ghost use Rattle.stepping.specs.Stepping.{Steps};
+ghost use Rattle.stepping.specs.Stepping.{StepsAs};
 
 // Each state accepts and decides by itself: called from two places, `accepted_at` and `decided` keep frames of their own in an archive, and
 // their copies of the record take no room while the caller checks it (docs/DECISIONS.md).
 pub fn step(base: Base, i: usize, kind: u8, ids: [u32; MOST_BASES], out: &mut [u8]) -> Change
-    ensures { λ r. ⌜ Steps base i (acceptedAt base (withinLinks i) kind ids) kind ids r (now (out .entry)) (now (out .exit)) ⌝ }
+    ensures { λ r. ⌜ StepsAs base i (acceptedAt base (withinLinks i) kind ids) kind ids r (now (out .entry)) (now (out .exit)) ⌝ }
 {
     if PRIME <= base.state {
         return discarded(base, base.state);
@@ -25,9 +25,9 @@ pub fn step(base: Base, i: usize, kind: u8, ids: [u32; MOST_BASES], out: &mut [u
     if base.state != IDLE {
         let accepted = accepted_at(base, i, kind, ids);
         let decision = decided(base, i, accepted, kind, ids);
-        return told(base.n, i, accepted, decision, ids, out);
+        return respond(base.n, i, accepted, decision, ids, out);
     }
     let accepted = accepted_at(base, i, kind, ids);
     let decision = decided(base, i, accepted, kind, ids);
-    told_first(base.n, base.own, i, accepted, decision, ids, out)
+    respond_first(base.n, base.own, i, accepted, decision, ids, out)
 }

@@ -13,7 +13,7 @@ use Rattle.limits.specs.Refusals.Laws.{size-passed}
 use Rattle.lists.specs.Choice.{choose}
 use Rattle.lists.specs.Choice.Laws.{choose-yes, choose-no}
 use Rattle.lines.specs.Lines.{netLine}
-use Rattle.lines.specs.Lines.Told.{two-ind}
+use Rattle.lines.specs.Lines.Found.{two-ind}
 use Rattle.protocol.specs.Net.{Pair, good, Event, happens}
 use Rattle.protocol.specs.Net as Nets
 use Rattle.protocol.specs.Agreement.{Proper}

@@ -13,7 +13,7 @@ use Rattle.lines.specs.declared.event.Line.{Line}
 use Rattle.lines.specs.declared.event.Line.the-variants.{Start, Carry, Forge, Wrong}
 use Rattle.lines.specs.Lines.{isBase, eventLine}
 use Rattle.lines.specs.Lines.Laws.{net-base-range, two-range}
-use Rattle.lines.specs.Lines.Told.{EventTold, event-told}
+use Rattle.lines.specs.Lines.Found.{EventFound, event-found}
 use Rattle.protocol.specs.Steps as Steps
 use Rattle.protocol.specs.Net.{Pair, Event, starts, carry, forge, at, eventRefusal}
 use Rattle.node.specs.declared.Node.{Node}
@@ -80,7 +80,7 @@ module _ (w : StoredNet) (few : w .n ≤ mostBases) where
   event-is e B q = rw q (ap (λ (x : StoredNet). record { refusal = eventRefusal (faultyOf w) (netOf w) e; net = x })
       (stored-there (at e) (reachedNode w e) B ∙ reached-stored w e))
 
-  line-is : (s : List ℕ) (p : ℕ) (x : Line) → EventTold (w .n) s p x
+  line-is : (s : List ℕ) (p : ℕ) (x : Line) → EventFound (w .n) s p x
       → record {
         refusal = reachedBy s (standing w (senderOf x)) (standing w (receiverOf x)) (faultyOf w) x .refusal;
         net = stored
@@ -111,7 +111,8 @@ pub line-stored : (s : List ℕ) (w : StoredNet) (p : ℕ) (x : Line) {i j : ℕ
     → w .n ≤ mostBases → x ≡ eventLine (w .n) s p → j ≡ nodePlace (senderOf x) → i ≡ nodePlace (receiverOf x)
     → r ≡ reachedBy s (getD (w .nodes) j noNode) (getD (w .nodes) i noNode) (faultyOf w) x
     → record { refusal = r .refusal; net = stored w i (r .node) } ≡ lineMoved s w x
-line-stored s w p x few ex ej ei er = rw (er, ej, ei) (line-is w few s p x (subst (EventTold (w .n) s p) (sym ex) (event-told (w .n) s p)))
+line-stored s w p x few ex ej ei er =
+    rw (er, ej, ei) (line-is w few s p x (subst (EventFound (w .n) s p) (sym ex) (event-found (w .n) s p)))
 
 -- the record at a place
 pub base-there : (w : StoredNet) (i : ℕ) → i < mostBases → getD (w .nodes) i noNode .base ≡ netOf w .base (i + 1)

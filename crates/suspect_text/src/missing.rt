@@ -2,10 +2,10 @@
 // identifier which it has announced itself.
 use crate::links::link_at;
 use crate::pairs::NAMED;
-use crate::pairs::behind;
 use crate::pairs::lacking;
 use crate::pairs::lacks;
 use crate::pairs::more;
+use crate::pairs::separate;
 use certified::link_count;
 use output::text;
 use parts::plus;
@@ -18,7 +18,7 @@ fn missing_of(b: u8, i: usize, link: Link, named: usize) -> usize {
         return named;
     }
     if named < NAMED {
-        behind(named);
+        separate(named);
         lacking(b, i, link.announce);
     }
     plus(named, 1)

@@ -32,7 +32,7 @@ pub(crate) fn lacking(b: u8, i: usize, g: u32) {
     number(g as usize);
 }
 
-pub(crate) fn behind(named: usize) {
+pub(crate) fn separate(named: usize) {
     if 0 < named {
         text(b"; ");
     }
@@ -40,7 +40,7 @@ pub(crate) fn behind(named: usize) {
 
 // `310 and 120 (`, behind so many pairs
 fn pair(named: usize, g: u32, h: u32) {
-    behind(named);
+    separate(named);
     number(g as usize);
     text(b" and ");
     number(h as usize);
@@ -61,7 +61,7 @@ fn own_pair(b: u8, base: Base, i: usize, named: usize) -> usize {
     plus(named, 1)
 }
 
-fn told_pair(b: u8, i: usize, one: Link, j: usize, other: Link, named: usize) {
+fn say_pair(b: u8, i: usize, one: Link, j: usize, other: Link, named: usize) {
     pair(named, one.announce, other.announce);
     if lacks(one, other.announce) {
         lacking(b, i, other.announce);
@@ -96,7 +96,7 @@ fn link_pair(b: u8, base: Base, i: usize, j: usize, named: usize) -> usize {
         return named;
     }
     if named < NAMED {
-        told_pair(b, i, one, j, other, named);
+        say_pair(b, i, one, j, other, named);
     }
     plus(named, 1)
 }

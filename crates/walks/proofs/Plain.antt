@@ -108,9 +108,9 @@ module _ {M : Type 1} {𝓤 : URA M} {H : Heap 𝓤} {A : Atoms 𝓤} {K : Type 
         move t (1 ∷ 0 ∷ []) $ closes t z (P .row) h (P .val h ∷ []) (x .ptr .0) (x .ptr .1) $ k)
 
     -- the loan is given up for the last value, which stands before those of the other parameters
-    pub settles : K → {κ : Lft} {s : Share} {ts : Item 𝓤} {γ : GName} {w : Gv} {i : Item 𝓤} {L : Fml}
+    pub gives-up : K → {κ : Lft} {s : Share} {ts : Item 𝓤} {γ : GName} {w : Gv} {i : Item 𝓤} {L : Fml}
         → Step K W ((‵ (flft κ s) ⊛ ts) ∷ ‵ (fsep (fres γ w) L) ∷ Γ) G (‵ (fobs γ w) ∷ i ∷ ‵ (flft κ s) ∷ ‵ (fsep ftrue L) ∷ ts ∷ Γ) G
-    settles t {γ = γ} {w = w} = step (λ k. use1 W (‵ (fres γ w)) (W .names .obs-res γ w) $
+    gives-up t {γ = γ} {w = w} = step (λ k. use1 W (‵ (fres γ w)) (W .names .obs-res γ w) $
         move t (3 ∷ []) $ fsplit t $ drop t $ move t (1 ∷ 0 ∷ []) $ fjoin t $ move t (2 ∷ 3 ∷ []) $ join t $ move t (2 ∷ []) $ drop t $ k)
 
 module _ {M : Type 1} {𝓤 : URA M} {H : Heap 𝓤} {A : Atoms 𝓤} {K : Type 0} {W : Given 𝓤 H A} {Γ : List (Item 𝓤)} {G : Goal 𝓤 H} where

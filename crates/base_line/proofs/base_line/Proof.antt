@@ -48,9 +48,9 @@ returns-2 c =
     let room = leb-true (a .at + lineRoom) (length (now (a .out))) fits in
     let t = fieldText baseText (a .number) in
     let few = few-field numberDigits baseText (a .number) (omega arith) (omega arith) in
-    let told = c .before .before .before .before .before .before .before in
-    let state = told .put-state .ensures in
-    let A = put-fits (length t) (omega (arith, few, room)) (told .before .before .before .before .put-field .ensures) in
+    let printed = c .before .before .before .before .before .before .before in
+    let state = printed .put-state .ensures in
+    let A = put-fits (length t) (omega (arith, few, room)) (printed .before .before .before .before .put-field .ensures) in
     let B = put-next stateRoom (stateText (a .base)) A (omega (arith, few, room, A .past)) (state .0, state .1 .0) in
     let P = put-next (length feed) feed B (omega (arith, few, state .1 .1, room, A .past))
     (c .before .before .put-text .ensures) in

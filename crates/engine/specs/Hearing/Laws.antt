@@ -29,7 +29,7 @@ use Rattle.change.specs.Change.Laws.{does-as}
 use Rattle.change.specs.Heard.{HoldsFirst, MessageIn, messageIn}
 use Rattle.accepting.specs.declared.Accepted.{Accepted}
 use Rattle.settling.specs.Settling.{withinLinks, acceptedAt}
-use Rattle.stepping.specs.Stepping.{Steps}
+use Rattle.stepping.specs.Stepping.{StepsAs}
 use Rattle.stepping.specs.Stepping.First.{Ready, ready-within}
 use Rattle.stepping.specs.Stepping.Arrival.{step-does}
 use Rattle.engine.specs.Hearing.{messageArrival}
@@ -101,7 +101,7 @@ module _ (b : Base) (link kind : ℕ) (ids : List ℕ) (room : ℕ) where
 -- a message that no number turns down is the step of the code
 pub heard-does : (b : Base) (link kind : ℕ) (ids output : List ℕ) (a : Accepted) (r : Change) (after : List ℕ) → Sized b
     → length ids ≡ mostBases → placeRefusal b link (length output) ≡ 0 → messageRefusal (b .n) kind ids ≡ 0
-    → a ≡ acceptedAt b (withinLinks (link - 1)) kind ids → Steps b (link - 1) a kind ids r output after
+    → a ≡ acceptedAt b (withinLinks (link - 1)) kind ids → StepsAs b (link - 1) a kind ids r output after
     → Does b (messageArrival b link kind ids (length output)) r output after
 heard-does b link kind ids output a r after Z l p e k S =
     let P = place-passed b link (length output) p in

@@ -1,8 +1,8 @@
 -- `event_lines::happen` meets its contract: the line decides.
 use mathlib.Core.Path.{refl, ap, subst}
 use denote.Ref.{now}
-use Rattle.node_calls.specs.declared.Told.{Told}
-use Rattle.node_calls.specs.Calls.{told}
+use Rattle.node_calls.specs.declared.NodeAnswer.{NodeAnswer}
+use Rattle.node_calls.specs.Calls.{nodeAnswer}
 use Rattle.stored_walk.specs.State.{HasBytes}
 use Rattle.stored_walk.specs.Reaching.{reachedBy}
 use borrow.Author.Needs.{needs}
@@ -12,8 +12,8 @@ use Rattle.event_lines.proofs.happen.Tie as tie
 enum-told : tie.Need-enum-told
 enum-told c = search needs
 
-start-requires : tie.Need-start-requires
-start-requires c κs = search needs
+start-node-requires : tie.Need-start-node-requires
+start-node-requires c κs = search needs
 
 enum-known-line : tie.Need-enum-known-line
 enum-known-line c = search needs
@@ -35,9 +35,10 @@ enum-told-2 : tie.Need-enum-told-2
 enum-told-2 c = search needs
 
 returns : tie.Need-returns
-unfolding reachedBy told
+unfolding reachedBy nodeAnswer
 returns c =
-    rw (c .before .before .enum-told .given .1) (ap (λ (t : Told). record { refusal = 0; node = t .node }) (c .before .start .ensures))
+    rw (c .before .before .enum-told .given .1)
+    (ap (λ (t : NodeAnswer). record { refusal = 0; node = t .node }) (c .before .start-node .ensures))
 
 returns-2 : tie.Need-returns-2
 unfolding reachedBy
@@ -56,7 +57,7 @@ happen-spec =
     tie.close
     (tie.spec
     enum-told
-    start-requires
+    start-node-requires
     enum-known-line
     cast-carry
     carry-requires

@@ -15,7 +15,7 @@ use Rattle.events.specs.Events.{Moved}
 use Rattle.schedule.specs.Walk.{nextLine, repeat}
 use Rattle.schedule.specs.Walk.Laws.{repeat-none, repeat-more, repeat-done}
 use Rattle.stored_walk.specs.State.{mostLines, HasBytes, refusedNet, onwardNet, lineMoved, replaying, lineAfter}
-use Rattle.stored_walk.specs.State.Laws.{line-stays, line-stopped, line-goes-on, line-after, line-refused, line-onward, told-bytes}
+use Rattle.stored_walk.specs.State.Laws.{line-stays, line-stopped, line-goes-on, line-after, line-refused, line-onward, found-bytes}
 use Rattle.stored_walk.specs.Reaching.{stored, line-stored}
 use Rattle.event_lines.proofs.line_steps.Statement.{statement}
 use Rattle.event_lines.proofs.line_steps.Tie as tie
@@ -103,7 +103,7 @@ happen-requires c κs =
     let e = c .before .before .before .before in
     let l = e .before .before .before .before in
     let s = now (l .before .before .args .s) in
-    subst (HasBytes s) (sym (e .event-line .ensures)) (told-bytes (l .loop .after .n) s (l .loop .after .at))
+    subst (HasBytes s) (sym (e .event-line .ensures)) (found-bytes (l .loop .after .n) s (l .loop .after .at))
 
 returns-2 : tie.Need-returns-2 Inv-loop μ-loop
 unfolding refusedNet

@@ -13,15 +13,15 @@ returns c = carry-refused _ _ _ _ _ _ (c .before .carry-refusal .ensures) (c .if
 link-to-requires : tie.Need-link-to-requires
 link-to-requires c κs = search needs
 
-broadcast-requires : tie.Need-broadcast-requires
-broadcast-requires c κs = search needs
+frame-at-requires : tie.Need-frame-at-requires
+frame-at-requires c κs = search needs
 
 hear-frame-requires : tie.Need-hear-frame-requires
 hear-frame-requires c κs = search needs
 
 returns-2 : tie.Need-returns-2
 returns-2 c = carry-heard _ _ _ _ _ _ (c .before .before .before .before .carry-refusal .ensures) (c .before .before .before .if1 .left)
-    (c .before .before .link-to .ensures) (c .before .broadcast .ensures) (c .hear-frame .ensures)
+    (c .before .before .link-to .ensures) (c .before .frame-at .ensures) (c .hear-frame .ensures)
 
 pub carry-spec : {M : Type 1} → statement M
 carry-spec =
@@ -30,6 +30,6 @@ carry-spec =
     carry-refusal-requires
     returns
     link-to-requires
-    broadcast-requires
+    frame-at-requires
     hear-frame-requires
     returns-2)

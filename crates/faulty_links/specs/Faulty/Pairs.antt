@@ -5,9 +5,10 @@ use mathlib.Core.Bool.{Bool, true, false}
 use mathlib.Core.List.{List}
 use native.Mathlib.Numerals.{add-one}
 use native.Mathlib.Omega.{arith}
-use lib.ListN.{length, getD, take, drop, length-map, length-take, List·getD-map}
-use lib.Seq.{getD-take, drop-cons, drop-length}
+use lib.ListN.{length, getD, drop}
+use lib.Seq.{drop-cons, drop-length}
 use Rattle.lists.specs.Choice.{and}
+use Rattle.lists.specs.Lists.Laws.{taken-length, taken-at}
 use Rattle.protocol.specs.Net.{Pair, joins, good}
 use Rattle.faulty_links.specs.declared.Faulty.{Faulty}
 use Rattle.faulty_links.specs.Faulty.{faultyRoom, pairOf, pairsOf, noPair}
@@ -16,14 +17,11 @@ use Rattle.faulty_links.specs.Faulty.{faultyRoom, pairOf, pairsOf, noPai
 pub pairs-named : (f : Faulty) → length (f .pairs) ≡ faultyRoom → {r : ℕ} → r ≡ min (f .count) faultyRoom → r ≡ length (pairsOf f)
 unfolding pairsOf
 pairs-named f e least = least
-    ∙ sym (length-map (take (f .count) (f .pairs)) pairOf ∙ length-take (f .count) (f .pairs) ∙ ap (min (f .count)) e)
+    ∙ sym (taken-length pairOf (f .count) (f .pairs) ∙ ap (min (f .count)) e)
 
 pub pair-there : (f : Faulty) (i : ℕ) → i < length (pairsOf f) → pairOf (getD (f .pairs) i noPair) ≡ getD (pairsOf f) i (pairOf noPair)
 unfolding pairsOf
-pair-there f i h =
-    ap pairOf (sym (getD-take (f .count)
-    (f .pairs) i noPair (omega (arith, length-map (take (f .count) (f .pairs)) pairOf, length-take (f .count) (f .pairs)))))
-    ∙ sym (List·getD-map pairOf (take (f .count) (f .pairs)) i noPair)
+pair-there f i h = taken-at pairOf (f .count) (f .pairs) i noPair h
 
 pub joined-there : (f : Faulty) (i a b : ℕ) → i < length (pairsOf f)
     → {r : Bool} → r ≡ joins (pairOf (getD (f .pairs) i noPair)) a b → joins (getD (pairsOf f) i (pairOf noPair)) a b ≡ r

@@ -3,7 +3,7 @@ use native.Mathlib.Omega.{arith}
 use borrow.Author.Needs.{needs}
 use mathlib.Core.Path.{refl, sym, _∙_, subst}
 use Rattle.lines.specs.Lines.Laws.{net-base-range}
-use Rattle.lines.specs.Lines.Told.{FaultyTold, faulty-told}
+use Rattle.lines.specs.Lines.Found.{FaultyFound, faulty-found}
 use Rattle.lines.specs.declared.bases.Two.the-variants.{Both}
 use denote.Ref.{now}
 use Rattle.net.specs.Header.{begunNet}
@@ -14,13 +14,13 @@ use Rattle.header.proofs.faulty_step.Statement.{statement}
 use Rattle.header.proofs.faulty_step.Tie as tie
 
 -- the line has its form, so the two are bases of the net
-told : (c : tie.After-known-told) → FaultyTold (c .before .before .before .before .before .before .before .args .header .n)
+found : (c : tie.After-known-told) → FaultyFound (c .before .before .before .before .before .before .before .args .header .n)
     (c .before .before .before .before .before .before .before .args .header .at)
     (Both (c .before .a .given .0 .0) (c .before .a .given .0 .1 .0) (c .before .a .given .0 .1 .1 .0))
-told c = subst (FaultyTold (c .before .before .before .before .before .before .before .args .header .n)
+found c = subst (FaultyFound (c .before .before .before .before .before .before .before .args .header .n)
     (c .before .before .before .before .before .before .before .args .header .at))
     (sym (c .before .before .before .faulty-line .ensures) ∙ c .before .a .given .1)
-    (faulty-told (c .before .before .before .before .before .before .before .args .header .n)
+    (faulty-found (c .before .before .before .before .before .before .before .args .header .n)
     (now (c .before .before .before .before .before .before .before .args .s))
     (c .before .before .before .before .before .before .before .args .header .at))
 
@@ -44,12 +44,12 @@ returns-2 c = unless-onward _
 
 cast-mark-faulty : tie.Need-cast-mark-faulty
 cast-mark-faulty c = omega
-    (arith, net-base-range (c .before .before .before .before .before .before .before .args .header .n) _ (told (c) .0) .1)
+    (arith, net-base-range (c .before .before .before .before .before .before .before .args .header .n) _ (found (c) .0) .1)
 
 cast-mark-faulty-2 : tie.Need-cast-mark-faulty-2
 cast-mark-faulty-2 c = omega (
   arith,
-  net-base-range (c .before .before .before .before .before .before .before .args .header .n) _ (told (c) .1 .0) .1,
+  net-base-range (c .before .before .before .before .before .before .before .args .header .n) _ (found (c) .1 .0) .1,
 )
 
 mark-faulty-requires : tie.Need-mark-faulty-requires

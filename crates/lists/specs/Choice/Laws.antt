@@ -29,6 +29,11 @@ unfolding choose
 choose-ind P true f g = f refl
 choose-ind P false f g = g refl
 
+pub choose-same : {A : Type 0} (t : Bool) {a b c d : A} → (t ≡ true → a ≡ c) → (t ≡ false → b ≡ d) → choose t a b ≡ choose t c d
+unfolding choose
+choose-same true f g = f refl
+choose-same false f g = g refl
+
 -- ---- a test has one value
 pub clash : {A : Type 0} {t : Bool} → t ≡ true → t ≡ false → A
 clash p q = absurd (let z : _≡_ {A = ℕ} 0 1 = cc in omega arith)

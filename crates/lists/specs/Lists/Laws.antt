@@ -1,14 +1,15 @@
 -- Laws of the tests on lists, as a loop over an index uses them: what the rest from an index on says of the list. Then a list in an array.
 use mathlib.Core.Path.{_≡_, refl, sym, ap, _∙_}
 use mathlib.Core.Bool.{Bool, true, false, not}
-use mathlib.Core.List.{List, [], _∷_, _++_, append-assoc}
-use Prim.Native.Nat.{ℕ, suc, _+_, _-_, _<_, _≤_}
+use mathlib.Core.List.{List, [], _∷_, _++_, map, append-assoc}
+use Prim.Native.Nat.{ℕ, suc, _+_, _-_, _<_, _≤_, min}
 use native.Mathlib.Omega.{arith}
 use native.Mathlib.Numerals.{add-one}
 use borrow.Author.Tests.{lt-ltb, le-ltb, eq-eqb, ne-eqb}
 use lib.Dec.{eqb}
-use lib.ListN.{length, take, drop, getD, set, replicate, length-append, length-drop, length-replicate, drop-of-length-le}
-use lib.Seq.{drop-cons, take-at, set-at}
+use lib.ListN.{length, take, drop, getD, set, replicate, length-append, length-drop, length-map, length-take, length-replicate}
+use lib.ListN.{drop-of-length-le, List·getD-map}
+use lib.Seq.{drop-cons, take-at, getD-take, set-at}
 use Rattle.lists.specs.Choice.{and, or}
 use Rattle.lists.specs.Lists.{nonzero, ascending, member, distinct, zeros, sameList, padTo}
 
@@ -109,6 +110,14 @@ ascending-end l i h = go (drop i l) (omega (arith, length-drop i l))
     go [] k = refl
     go (x ∷ []) k = refl
     go (x ∷ (y ∷ t)) k = absurd (omega arith)
+
+-- ---- the elements of an array that are in use, each as a value
+module _ {A B : Type 0} (f : A → B) (k : ℕ) (l : List A) where
+  pub taken-length : length (map f (take k l)) ≡ min k (length l)
+  taken-length = length-map (take k l) f ∙ length-take k l
+
+  pub taken-at : (i : ℕ) (none : A) → i < length (map f (take k l)) → f (getD l i none) ≡ getD (map f (take k l)) i (f none)
+  taken-at i none h = ap f (sym (getD-take k l i none (omega (arith, taken-length)))) ∙ sym (List·getD-map f (take k l) i none)
 
 -- ---- a list in an array
 pub length-pad : (places : ℕ) (l : List ℕ) → length l ≤ places → length (padTo places l) ≡ places

@@ -1,24 +1,20 @@
 -- How many broadcasts a base has, and each of them.
-use Prim.Native.Nat.{ℕ, zero, suc, _-_, _≤_, _<_}
-use mathlib.Core.Path.{_≡_, refl, sym, ap, _∙_}
+use Prim.Native.Nat.{ℕ, zero, suc, _-_, _≤_, _<_, min}
+use mathlib.Core.Path.{_≡_, refl, sym}
 use mathlib.Core.List.{List, [], _∷_, map}
 use native.Mathlib.Omega.{arith}
 use borrow.Author.Tests.{lt-ltb, le-ltb, ltb-true, ltb-false}
-use lib.ListN.{length, getD, take, length-map, length-take, List·getD-map}
-use lib.Seq.{length-take-le, take-all, getD-take}
+use lib.ListN.{length, getD, take, length-map}
 use lib.Dec.{ltb}
 use Rattle.lists.specs.Choice.Laws.{chosen-yes, chosen-no, choose-ind}
+use Rattle.lists.specs.Lists.Laws.{taken-length, taken-at}
 use Rattle.node.specs.declared.Frame.{Frame}
 use Rattle.node.specs.declared.Node.{Node}
 use Rattle.node.specs.Node.{written, logOf, emptyFrame, noFrame, frameAt}
 
-pub log-part : (v : Node) → v .count ≤ length (v .frames) → length (logOf v) ≡ v .count
+pub log-length : (v : Node) → length (logOf v) ≡ min (v .count) (length (v .frames))
 unfolding logOf
-log-part v h = length-map (take (v .count) (v .frames)) written ∙ length-take-le (v .count) (v .frames) h
-
-pub log-full : (v : Node) → length (v .frames) ≤ v .count → length (logOf v) ≡ length (v .frames)
-unfolding logOf
-log-full v h = length-map (take (v .count) (v .frames)) written ∙ ap length (take-all (v .count) (v .frames) h)
+log-length v = taken-length written (v .count) (v .frames)
 
 -- ---- the k-th
 pub frame-there : (v : Node) (i k : ℕ) → i ≡ k - 1 → i < length (logOf v) → getD (v .frames) i noFrame ≡ frameAt v k
@@ -47,9 +43,7 @@ frame-written v k = choose-ind (λ (f : Frame). written f ≡ getD (logOf v) (k 
     counted = unfold logOf in length-map kept written
 
     there : k - 1 < length (logOf v) → written (getD (v .frames) (k - 1) noFrame) ≡ getD (logOf v) (k - 1) []
-    there h = unfold logOf written in
-        ap written (sym (getD-take (v .count) (v .frames) (k - 1) noFrame (omega (arith, counted, length-take (v .count) (v .frames)))))
-        ∙ sym (List·getD-map written kept (k - 1) noFrame)
+    there h = unfold logOf written in taken-at written (v .count) (v .frames) (k - 1) noFrame h
 
     past : length (logOf v) ≤ k - 1 → written emptyFrame ≡ getD (logOf v) (k - 1) []
     past h = unfold logOf written in sym (past-map kept (k - 1) (omega (arith, counted)))

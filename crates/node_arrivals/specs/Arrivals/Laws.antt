@@ -23,8 +23,8 @@ use Rattle.engine.specs.Hearing.{messageArrival}
 use Rattle.engine.specs.Hearing.Bursts.{read-heard}
 use Rattle.node.specs.declared.Node.{Node}
 use Rattle.node.specs.Node.{marked, nodeAfter}
-use Rattle.node_calls.specs.declared.Told.{Told}
-use Rattle.node_calls.specs.Calls.{told}
+use Rattle.node_calls.specs.declared.NodeAnswer.{NodeAnswer}
+use Rattle.node_calls.specs.Calls.{nodeAnswer}
 use Rattle.node_calls.specs.Calls.Laws.{after-unchanged}
 use Rattle.node_arrivals.specs.Arrivals.{heardBurst}
 
@@ -46,18 +46,18 @@ module _ (u : Node) (link : ℕ) (bytes : List ℕ) (a k : ℕ) where
   -- what was read arrives
   module _ {kind count start : ℕ} (e : readingOf (u .base .n) bytes ≡ Message kind count start)
       {ids : List ℕ} (ei : ids ≡ idArray (take (start + 4 * count - start) (drop start bytes)))
-      {t : Told} (et : t ≡ told u (messageArrival (u .base) link kind ids outputRoom)) where
-    is-told : t ≡ told u (arrival (u .base) link bytes outputRoom)
-    is-told = et ∙ ap (told u)
+      {t : NodeAnswer} (et : t ≡ nodeAnswer u (messageArrival (u .base) link kind ids outputRoom)) where
+    is-answer : t ≡ nodeAnswer u (arrival (u .base) link bytes outputRoom)
+    is-answer = et ∙ ap (nodeAnswer u)
         (sym (read-heard (u .base) link bytes outputRoom _ _ _ e ids (ei ∙ ap idArray (body-there _ _ _ _ _ e))))
 
     its-number : t .refusal ≡ callRefusal (arrival (u .base) link bytes outputRoom .answer)
-    unfolding told
-    its-number = ap (λ (x : Told). x .refusal) is-told
+    unfolding nodeAnswer
+    its-number = ap (λ (x : NodeAnswer). x .refusal) is-answer
 
     its-node : t .node ≡ nodeAfter u (arrival (u .base) link bytes outputRoom)
-    unfolding told
-    its-node = ap (λ (x : Told). x .node) is-told
+    unfolding nodeAnswer
+    its-node = ap (λ (x : NodeAnswer). x .node) is-answer
 
     -- a call that is turned down leaves the base as it was
     pub burst-unheard : t .refusal ≢ 0 → t .node ≡ heardBurst u link bytes a k

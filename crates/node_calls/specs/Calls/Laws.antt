@@ -26,10 +26,10 @@ use Rattle.c_answers.specs.declared.CallAnswer.{CallAnswer}
 use Rattle.c_answers.specs.Numbers.{outcomeNumbers}
 use Rattle.node.specs.declared.Frame.{Frame}
 use Rattle.node.specs.declared.Node.{Node}
-use Rattle.node_calls.specs.declared.Told.{Told}
+use Rattle.node_calls.specs.declared.NodeAnswer.{NodeAnswer}
 use Rattle.node.specs.Node.{mostBroadcasts, storedFrame, joined, joinedAll, withBase, nodeAfter}
 use Rattle.protocol.specs.Steps.Sizes.{length-encode}
-use Rattle.node_calls.specs.Calls.{told, keptOf, keptFrom, AllFit, Fitting, settledOf}
+use Rattle.node_calls.specs.Calls.{nodeAnswer, keptOf, keptFrom, AllFit, Fitting, writtenAnswer}
 use Rattle.node_calls.specs.Calls.Storable.{AllShort, Storable}
 
 pub copied : (out : List ℕ) (from len i : ℕ) → i < len → len ≤ longestFrame → from + len ≤ length out
@@ -161,32 +161,32 @@ module _ (v : Node) (d : Done) (T : Storable (v .base) d) (out : List ℕ) (wide
   unfolding nodeAfter outputOf
   joined-all = three-joined (withBase v (d .base)) (d .says) out (T .brief .few)
 
-  settled-answer : (a : Answer) → d .answer ≡ a
-      → settledOf v (d .base) (outcomeOf a (d .says)) (outputOf d out) ≡ record { refusal = callRefusal a; node = nodeAfter v d }
-  unfolding outcomeOf outcomeNumbers settledOf callRefusal
-  settled-answer accepted e = ap (λ (w : Node). record { refusal = 0; node = w }) joined-all
-  settled-answer discarded e = ap (λ (w : Node). record { refusal = 0; node = w }) joined-all
-  settled-answer (refused r) e = ap (λ (w : Node). record { refusal = r; node = w })
+  written-is-answer : (a : Answer) → d .answer ≡ a
+      → writtenAnswer v (d .base) (outcomeOf a (d .says)) (outputOf d out) ≡ record { refusal = callRefusal a; node = nodeAfter v d }
+  unfolding outcomeOf outcomeNumbers writtenAnswer callRefusal
+  written-is-answer accepted e = ap (λ (w : Node). record { refusal = 0; node = w }) joined-all
+  written-is-answer discarded e = ap (λ (w : Node). record { refusal = 0; node = w }) joined-all
+  written-is-answer (refused r) e = ap (λ (w : Node). record { refusal = r; node = w })
       (ap (keptFrom (withBase v (d .base)) (outputOf d out) 0) (no-lengths (d .says) (T .down r e .says)) ∙ joined-all)
 
   pub call-fits : {o : Outcome} {left : Base} {written : List ℕ} → DoesAs (λ x. x) d o left out written → Fitting o (length written)
   call-fits D = rw (D .changes .outcome, D .written) (fitting-answer (d .answer))
 
-  pub call-told : {o : Outcome} {left : Base} {written : List ℕ} {t : Told}
-      → DoesAs (λ x. x) d o left out written → t ≡ settledOf v left o written → t ≡ told v d
-  unfolding told
-  call-told D t = t ∙ rw (D .changes .base, D .changes .outcome, D .written) (settled-answer (d .answer) refl)
+  pub call-answer : {o : Outcome} {left : Base} {written : List ℕ} {t : NodeAnswer}
+      → DoesAs (λ x. x) d o left out written → t ≡ writtenAnswer v left o written → t ≡ nodeAnswer v d
+  unfolding nodeAnswer
+  call-answer D t = t ∙ rw (D .changes .base, D .changes .outcome, D .written) (written-is-answer (d .answer) refl)
 
 -- ---- an outcome as numbers
 module _ (o : Outcome) {a : CallAnswer} (e : a ≡ outcomeNumbers o) where
   pub numbers-fit : {room : ℕ} → Fitting o room → AllFit room 0 (a .first ∷ (a .second ∷ (a .third ∷ [])))
   numbers-fit {room} F = subst (λ (n : CallAnswer). AllFit room 0 (n .first ∷ (n .second ∷ (n .third ∷ [])))) (sym e) F
 
-  pub numbers-settled : (v : Node) (out : List ℕ) {b c : Base} {w : Node} → c ≡ b
+  pub numbers-answer : (v : Node) (out : List ℕ) {b c : Base} {w : Node} → c ≡ b
       → w ≡ keptFrom (withBase v c) out 0 (a .first ∷ (a .second ∷ (a .third ∷ [])))
-      → record { refusal = a .refusal; node = w } ≡ settledOf v b o out
-  unfolding settledOf
-  numbers-settled v out d k = rw (k, d, e)
+      → record { refusal = a .refusal; node = w } ≡ writtenAnswer v b o out
+  unfolding writtenAnswer
+  numbers-answer v out d k = rw (k, d, e)
 
 -- ---- the frames of an output, one after another
 -- the i-th fits in its place, and those behind it in theirs

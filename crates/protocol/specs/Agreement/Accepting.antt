@@ -13,7 +13,7 @@ use Rattle.protocol.specs.Agreement.Cases.{impossible}
 use Rattle.protocol.specs.Agreement.Views.{View, Said, ViewHolds, corrects, holdsOf, tallyOf, lacks, suspect, Prime, Secondary, Lists}
 use Rattle.protocol.specs.Agreement.Storing.{Vector, ListOf, vector-or-not, list-or-not, Stored}
 use Rattle.protocol.specs.Agreement.Storing.{stored-names, stored-prime, stored-corrects, stored-secondary}
-use Rattle.protocol.specs.Agreement.Calls.{messageInput, Grows, Settled, Taken, Backed, Stopping, as-prime, as-secondary, ViewCall}
+use Rattle.protocol.specs.Agreement.Calls.{messageInput, Grows, Quiescent, Taken, Backed, Stopping, as-prime, as-secondary, ViewCall}
 
 -- ---- what b broadcasts before the check, and whether a Verify-Final is sent after it
 pub data Saying (n : ℕ) (m : Message) (b a : View) : ℕ → List Message → Type 0 where
@@ -58,7 +58,7 @@ unfolding closing corrects
 corrects-closing n a state sent final v = refl
 
 module _ (n t me own x : ℕ) (x-in : x < n) (m : Message) (b a : View) (S : Stored x m b a) (runs : b .state ≡ 1)
-    (settled : Settled n t me b) where
+    (quiescent : Quiescent n t me b) where
   -- ---- what is broadcast
   telling-sent : {sent : ℕ} {said : List Message} → Saying n m b a sent said → b .sent ≤ sent
   telling-sent (says-name g above e) = le-refl (b .sent)
@@ -108,7 +108,7 @@ module _ (n t me own x : ℕ) (x-in : x < n) (m : Message) (b a : View) (S : Sto
 
   ending-prime : {state : ℕ} {final : List ℕ} {out : List Message} → Ending n t me m a state final out → state ≡ 1 → Prime n t me a → ⊥
   ending-prime (runs-on p q) e P = elim (vector-or-not m) [
-    | inl h ↦ settled .not-prime runs (stored-prime x m b a S n t me h P)
+    | inl h ↦ quiescent .not-prime runs (stored-prime x m b a S n t me h P)
     | inr h ↦ p h P
   ]
   ending-prime (ends-prime v P L) e Q = omega arith
@@ -118,7 +118,7 @@ module _ (n t me own x : ℕ) (x-in : x < n) (m : Message) (b a : View) (S : Sto
       → Secondary n t a v → ⊥
   ending-secondary (runs-on p q) v e P = elim (list-or-not m v) [
     | inl h ↦ q v h P
-    | inr h ↦ settled .not-secondary v runs (stored-secondary x m b a S n t v h P)
+    | inr h ↦ quiescent .not-secondary v runs (stored-secondary x m b a S n t v h P)
   ]
   ending-secondary (ends-prime u P L) v e Q = omega arith
   ending-secondary (ends-secondary u P) v e Q = omega arith
@@ -141,8 +141,8 @@ module _ (n t me own x : ℕ) (x-in : x < n) (m : Message) (b a : View) (S : Sto
       stays = λ h. absurd (omega (arith, runs));
     }
 
-    c-settled : Settled n t me c
-    c-settled = record {
+    c-quiescent : Quiescent n t me c
+    c-quiescent = record {
       not-prime = λ e P. ending-prime E (is-state e) (closing-prime n t me a state sent final P);
       not-secondary = λ v e P. ending-secondary E v (is-state e) (closing-secondary n t a state sent final v P);
       has-voted = λ v e z. omega (arith, corrects-closing n a state sent final v, few v (is-sent z));
@@ -166,7 +166,7 @@ module _ (n t me own x : ℕ) (x-in : x < n) (m : Message) (b a : View) (S : Sto
         few : (v : List ℕ) → sent ≡ 0 → corrects n a v ≤ 1
         few v z = elim (correct-dec v) [
           | inl e ↦ telling-few T v e z
-          | inr e ↦ le-trans (stored-corrects x m b a S n v e) (settled .has-voted v runs (omega (arith, telling-sent T)))
+          | inr e ↦ le-trans (stored-corrects x m b a S n v e) (quiescent .has-voted v runs (omega (arith, telling-sent T)))
         ]
 
     c-holds : (y : ℕ) (w : Message) → ViewHolds c y w → ViewHolds a y w
@@ -218,7 +218,7 @@ module _ (n t me own x : ℕ) (x-in : x < n) (m : Message) (b a : View) (S : Sto
     accepted-call = record {
       grows = c-grows;
       runs = unfold closing in ending-states E .0;
-      settled = c-settled;
+      quiescent = c-quiescent;
       heard = λ y w ne h. elim (S .heard y w (c-holds y w h)) [ inl k ↦ inl k | inr k ↦ inr (same y w (k .0) (k .1)) ];
       taken = λ y w e s. c-taken y w e;
       stopping = λ s. c-stopping (unfold closing in s);

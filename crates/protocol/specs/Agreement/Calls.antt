@@ -28,7 +28,7 @@ pub record SoundView (n me own : ℕ) (b : View) : Type 0 where
 
 -- a running base has acted on all that it holds: both checks fail of it as it stands, and
 -- with two Correct-Finals of one list it has sent a Verify-Final
-pub record Settled (n t me : ℕ) (b : View) : Type 0 where
+pub record Quiescent (n t me : ℕ) (b : View) : Type 0 where
   pub not-prime : b .state ≡ 1 → Prime n t me b → ⊥
   pub not-secondary : (v : List ℕ) → b .state ≡ 1 → Secondary n t b v → ⊥
   pub has-voted : (v : List ℕ) → b .state ≡ 1 → b .sent ≡ 0 → corrects n b v ≤ 1
@@ -72,7 +72,7 @@ pub data Stopping (n t me : ℕ) (b c : View) : Type 0 where
 pub record ViewCall (n t me own : ℕ) (i : ViewInput) (b c : View) (says : List Message) : Type 0 where
   pub grows : Grows b c
   pub runs : 1 ≤ c .state
-  pub settled : Settled n t me c
+  pub quiescent : Quiescent n t me c
   -- what is held was held before, or has just arrived; what has arrived is taken
   pub heard : (x : ℕ) (m : Message) → x ≢ me → ViewHolds c x m → ViewHolds b x m ⊎ (i ≡ messageInput x m)
   pub taken : (x : ℕ) (m : Message) → i ≡ messageInput x m → c .state ≤ 1 → Taken n b c x m

@@ -10,7 +10,7 @@ use Rattle.counting.specs.Degrees.{total, Symmetric}
 use Rattle.counting.specs.Pigeonhole.{Injective}
 use Rattle.frame.specs.Message.{Message, announce, verify, correctFinal, verifyFinal}
 use Rattle.protocol.specs.Agreement.Views.{View, Said, ViewHolds, Certified, Lists}
-use Rattle.protocol.specs.Agreement.Calls.{SoundView, Settled, Backed}
+use Rattle.protocol.specs.Agreement.Calls.{SoundView, Quiescent, Backed}
 use Rattle.protocol.specs.Agreement.Growth.{Delivered}
 
 -- n bases with identifiers id; faulty x y is 1 where the link of x and y is faulty, and 0
@@ -38,7 +38,7 @@ broadcastAt log k = getD log k (announce 0)
 pub record Invariant (n t : ℕ) (faulty : ℕ → ℕ → ℕ) (id : ℕ → ℕ) (truth : List ℕ) (N : State) : Type 0 where
   -- ---- each base
   pub sound : (x : ℕ) → x < n → SoundView n x (id x) (N .base x)
-  pub settled : (x : ℕ) → x < n → Settled n t x (N .base x)
+  pub quiescent : (x : ℕ) → x < n → Quiescent n t x (N .base x)
   -- ---- its log: each broadcast is backed by the record, and what the record shows was broadcast
   pub backed : (x : ℕ) (m : Message) → x < n → Said m (N .log x) → Backed n (id x) (N .base x) m
   pub start-said : (x : ℕ) → x < n → 1 ≤ N .base x .state → Said (announce (id x)) (N .log x)

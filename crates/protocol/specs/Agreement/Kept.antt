@@ -12,7 +12,7 @@ pub kept : (n t : ℕ) (faulty : ℕ → ℕ → ℕ) (id : ℕ → ℕ) (truth 
     → Invariant n t faulty id truth M
 kept n t faulty id truth P N M I S = record {
   sound = Logs.sound-kept n t faulty id truth N M I S;
-  settled = Logs.settled-kept n t faulty id truth N M I S;
+  quiescent = Logs.quiescent-kept n t faulty id truth N M I S;
   backed = Logs.backed-kept n t faulty id truth N M I S;
   start-said = Logs.start-said-kept n t faulty id truth N M I S;
   names-said = Logs.names-said-kept n t faulty id truth N M I S;

@@ -68,6 +68,6 @@ module _ (n t : ℕ) (faulty : ℕ → ℕ → ℕ) (id : ℕ → ℕ) (truth : 
 
   pub all-stopped : (x : ℕ) → x < n → 2 ≤ N .base x .state
   all-stopped x l = elim (running-or-not n t faulty id truth P N I R x l) [
-    | inl runs ↦ absurd (I .settled x l .not-secondary truth runs (passes-secondary x l runs))
+    | inl runs ↦ absurd (I .quiescent x l .not-secondary truth runs (passes-secondary x l runs))
     | inr s ↦ s
   ]

@@ -95,7 +95,7 @@ module _ (n t me own : ℕ) (two : 2 ≤ n) (me-in : me < n) (above : 1 ≤ own)
       stays = λ h. absurd (omega (arith, B .idle));
     };
     runs = omega (arith, started-state b);
-    settled = record {
+    quiescent = record {
       not-prime = λ e P. not-prime P;
       not-secondary = λ v e P. omega (arith, P .two, no-corrects v);
       has-voted = λ v e z. omega (arith, no-corrects v);
@@ -129,7 +129,7 @@ module _ (n t me own x : ℕ) (m : Message) (b d : View) (said out : List Messag
   start-then-call = record {
     grows = grows-then (S .grows) (A .grows);
     runs = A .runs;
-    settled = A .settled;
+    quiescent = A .quiescent;
     heard = λ y w ne h. elim (A .heard y w ne h) [
       | inl k ↦ elim (S .heard y w ne k) [ inl q ↦ inl q | inr q ↦ impossible (cc) ]
       | inr k ↦ inr k

@@ -11,7 +11,7 @@ use Rattle.limits.specs.Limits.{mostBases}
 use Rattle.limits.specs.Refusals.{NetSize}
 use Rattle.lists.specs.Choice.Laws.{choose-yes, first-passed}
 use Rattle.frame.specs.Encoding.{encode}
-use Rattle.protocol.specs.Net.{Pair, Event, starts, carry, forge, at, call, eventRefusal, refusal, settled, happens, run}
+use Rattle.protocol.specs.Net.{Pair, Event, starts, carry, forge, at, call, eventRefusal, refusal, netAfter, happens, run}
 use Rattle.protocol.specs.Net as Nets
 use Rattle.protocol.specs.Agreement.{BaseOf, Setting, Fresh, Proper}
 use Rattle.protocol.specs.Agreement.Longer.{run-more, proper-more}
@@ -75,8 +75,8 @@ module _ {n t : ℕ} {faulty : List Pair} {W : Nets.Net} (H : History n t faulty
   )
     where
       after-log : happens faulty W e .log (at e) ≡ W .log (at e) ++ map encode (call W e .says)
-      after-log = unfold happens settled in
-          ap (λ (U : Nets.Net). U .log (at e)) (choose-yes (settled W e) W (eq-eqb (refusal faulty W e) 0 q))
+      after-log = unfold happens netAfter in
+          ap (λ (U : Nets.Net). U .log (at e)) (choose-yes (netAfter W e) W (eq-eqb (refusal faulty W e) 0 q))
           ∙ replaced-here (at e) (W .log (at e) ++ map encode (call W e .says)) (W .log)
 
   place : refusal faulty W e ≡ 0 → HasPlace e

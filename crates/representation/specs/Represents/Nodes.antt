@@ -7,7 +7,7 @@ use native.Mathlib.Numerals.{add-one}
 use native.Mathlib.Omega.{arith}
 use borrow.Author.Tests.{lt-ltb}
 use lib.Dec.{ltb}
-use lib.ListN.{length, take, set, length-map, length-take, length-set, length-append}
+use lib.ListN.{length, take, set, length-map, length-set, length-append}
 use lib.Seq.{take-suc-set}
 use Rattle.limits.specs.Limits.{longestFrame}
 use Rattle.lists.specs.Choice.Laws.{choose-yes, choose-ind}
@@ -16,6 +16,7 @@ use Rattle.frame.specs.Encoding.{encode}
 use Rattle.protocol.specs.Steps.{Done}
 use Rattle.node.specs.declared.Node.{Node}
 use Rattle.node.specs.Node.{mostBroadcasts, written, logOf, storedFrame, joined, joinedAll, withBase, nodeAfter}
+use Rattle.node.specs.Node.Log.{log-length}
 use Rattle.node.specs.Node.Memory.{SizedNode}
 
 -- ---- what joining broadcasts leaves alone
@@ -50,14 +51,13 @@ pub map-snoc : {A B : Type 0} (f : A → B) (l : List A) (x : A) → map f (l ++
 map-snoc f [] x = refl
 map-snoc {B = B} f (y ∷ l) x = ap (λ (k : List B). f y ∷ k) (map-snoc f l x)
 
-count-below : (v : Node) → SizedNode v → length (logOf v) < mostBroadcasts → v .count < mostBroadcasts
-unfolding logOf
-count-below v Z h = omega (arith, length-map (take (v .count) (v .frames)) written, length-take (v .count) (v .frames), Z .frames)
+broadcasts-below : (v : Node) → SizedNode v → length (logOf v) < mostBroadcasts → v .count < mostBroadcasts
+broadcasts-below v Z h = omega (arith, log-length v, Z .frames)
 
 joined-log : (v : Node) (bytes : List ℕ)
     → SizedNode v → length (logOf v) < mostBroadcasts → logOf (joined v bytes) ≡ logOf v ++ (bytes ∷ [])
 unfolding joined
-joined-log v bytes Z h = ap logOf (choose-yes _ _ (lt-ltb (v .count) mostBroadcasts (count-below v Z h))) ∙ stored
+joined-log v bytes Z h = ap logOf (choose-yes _ _ (lt-ltb (v .count) mostBroadcasts (broadcasts-below v Z h))) ∙ stored
   where
     stored : logOf (record {
       base = v .base;
@@ -66,7 +66,7 @@ joined-log v bytes Z h = ap logOf (choose-yes _ _ (lt-ltb (v .count) mostBroadca
       heard = v .heard;
     }) ≡ logOf v ++ (bytes ∷ [])
     stored = unfold logOf in rw (add-one (v .count))
-        (ap (map written) (take-suc-set (v .frames) (v .count) (storedFrame bytes) (omega (arith, count-below v Z h, Z .frames)))
+        (ap (map written) (take-suc-set (v .frames) (v .count) (storedFrame bytes) (omega (arith, broadcasts-below v Z h, Z .frames)))
         ∙ map-snoc written (take (v .count) (v .frames)) (storedFrame bytes)
         ∙ ap (λ (b : List ℕ). map written (take (v .count) (v .frames)) ++ (b ∷ [])) (written-frame bytes))
 

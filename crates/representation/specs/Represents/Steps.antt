@@ -13,7 +13,7 @@ use Rattle.lists.specs.Choice.{choose, and, or}
 use Rattle.lists.specs.Choice.Laws.{choose-ind, and-no, and-fails}
 use Rattle.frame.specs.Encoding.{encode}
 use Rattle.protocol.specs.Steps.{Done}
-use Rattle.protocol.specs.Net.{Event, starts, carry, forge, at, call, refusal, replaced, carriedAfter, settled, happens}
+use Rattle.protocol.specs.Net.{Event, starts, carry, forge, at, call, refusal, replaced, carriedAfter, netAfter, happens}
 use Rattle.protocol.specs.Net as Nets
 use Rattle.protocol.specs.Agreement.Inner.Moves.{replaced-here, replaced-other}
 use Rattle.node.specs.declared.Node.{Node}
@@ -99,10 +99,10 @@ module _ (w : StoredNet) (e : Event) (Z : SizedNet w) (B : inRange (at e) mostBa
   node-now : (y : ℕ) → nodeAt (withNode w (at e) u) y ≡ replaced (at e) u (nodeAt w) y
   node-now = node-replaced w (at e) u B (Z .nodes)
 
-  pub abstract-settled : length (logOf v) + length (d .says) ≤ mostBroadcasts
-      → HasPlace e → netOf (withNode w (at e) u) ≡ settled (netOf w) e
-  unfolding netOf settled
-  abstract-settled room P = net-same (netOf (withNode w (at e) u)) (settled (netOf w) e) base log carried
+  pub abstract-net-after : length (logOf v) + length (d .says) ≤ mostBroadcasts
+      → HasPlace e → netOf (withNode w (at e) u) ≡ netAfter (netOf w) e
+  unfolding netOf netAfter
+  abstract-net-after room P = net-same (netOf (withNode w (at e) u)) (netAfter (netOf w) e) base log carried
     where
       base : (y : ℕ) → nodeAt (withNode w (at e) u) y .base ≡ replaced (at e) (d .base) (λ z. nodeAt w z .base) y
       base y = ap (λ (x : Node). x .base) (node-now y) ∙ replaced-map (λ (x : Node). x .base) (at e) u (nodeAt w) y
@@ -127,8 +127,8 @@ module _ (w : StoredNet) (e : Event) (Z : SizedNet w) (B : inRange (at e) mostBa
   unfolding after happens
   abstract-after H = go (eqb number 0) refl
     where
-      go : (t : Bool) → eqb number 0 ≡ t → netOf (choose t (withNode w (at e) u) w) ≡ choose t (settled (netOf w) e) (netOf w)
-      go true q = unfold choose in (let h = H (eqb-true number 0 q) in abstract-settled (unfold netOf in h .0) (h .1))
+      go : (t : Bool) → eqb number 0 ≡ t → netOf (choose t (withNode w (at e) u) w) ≡ choose t (netAfter (netOf w) e) (netOf w)
+      go true q = unfold choose in (let h = H (eqb-true number 0 q) in abstract-net-after (unfold netOf in h .0) (h .1))
       go false q = unfold choose in refl
 
   pub after-sized-net : SizedNet (after w e)

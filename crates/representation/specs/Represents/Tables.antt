@@ -10,7 +10,7 @@ use lib.ListN.{length, getD, set, length-set}
 use lib.Seq.{getD-set-same, getD-set-other}
 use Rattle.limits.specs.Limits.{mostBases}
 use Rattle.lists.specs.Choice.{choose}
-use Rattle.lists.specs.Choice.Laws.{choose-yes}
+use Rattle.lists.specs.Choice.Laws.{choose-yes, choose-same}
 use Rattle.protocol.specs.declared.Base.{Base}
 use Rattle.protocol.specs.Net.{replaced}
 use Rattle.protocol.specs.Net as Nets
@@ -24,11 +24,6 @@ use Rattle.net.specs.Abstraction.{noNode, nodeAt, withNode, withNodes, emptyNod
 use Rattle.representation.specs.Represents.{SizedNet}
 
 -- ---- tables
-choose-same : {A : Type 0} (t : Bool) {a c : A} (b : A) → (t ≡ true → a ≡ c) → choose t a b ≡ choose t c b
-unfolding choose
-choose-same true b f = f refl
-choose-same false b f = refl
-
 choose-map : {A B : Type 0} (f : A → B) (t : Bool) (a b : A) → f (choose t a b) ≡ choose t (f a) (f b)
 unfolding choose
 choose-map f true a b = refl
@@ -61,8 +56,9 @@ module _ (w : StoredNet) (b : ℕ) (v : Node) (B : inRange b mostBases ≡ true)
   replaced-node Z y = elim (ℕ-discrete y b) [
     | yes p ↦ rw p (choose-yes _ _ B
         ∙ getD-set-same (w .nodes) (b - 1) v noNode (omega (arith, range, Z)) ∙ sym (replaced-here b v (nodeAt w)))
-    | no p ↦ choose-same (inRange y mostBases) (emptyNode (w .n) (w .t)) (λ Y. getD-set-other
-        (w .nodes) (b - 1) (y - 1) v noNode (apart p (within-range y mostBases Y))) ∙ sym (replaced-other b v (nodeAt w) y p)
+    | no p ↦ choose-same (inRange y mostBases)
+        (λ Y. getD-set-other (w .nodes) (b - 1) (y - 1) v noNode (apart p (within-range y mostBases Y))) (λ _. refl)
+        ∙ sym (replaced-other b v (nodeAt w) y p)
   ]
     where
       apart : y ≢ b → (1 ≤ y) × (y ≤ mostBases) → y - 1 ≢ b - 1

@@ -29,7 +29,7 @@ use Rattle.c_answers.proofs.leader_numbers.Symbol as numbers-def
 use Rattle.c_answers.proofs.leader_numbers.Symbol.{name as #c-answers·leader-numbers}
 use Rattle.c_answers.proofs.leader_numbers.Met as numbers-thm
 use Rattle.walks.proofs.Locals.{enters, held, sets, puts, free-all}
-use Rattle.walks.proofs.Plain.{typed, takes, gets, lent, opened, closed, settles}
+use Rattle.walks.proofs.Plain.{typed, takes, gets, lent, opened, closed, gives-up}
 use Rattle.walks.proofs.Calls.{triple, calls-by, ends-by, meets-by, proved}
 use Rattle.roster_c.proofs.Types.{base-type, leader-type, leader-answer-type}
 use Rattle.roster_c.proofs.roster_leader.Key.{name as #roster-leader}
@@ -63,7 +63,7 @@ module _ {M : Type 1} (𝓤 : URA M) (H : Heap 𝓤) (A : Atoms 𝓤) (W : Given
       puts ! 14 refl (typed W leader-answer-type a its .0) $ drop ! $ drop ! $
       move ! (2 ∷ 3 ∷ 4 ∷ 5 ∷ []) $ closed ! tt base-type b (b .now) was $
       returns ! (look ! 11 refl) $ free-all ! (_ ∷ _ ∷ _ ∷ _ ∷ _ ∷ []) (_ ∷ _ ∷ _ ∷ _ ∷ []) [] $
-      settles ! $ gets ! leader-answer-type a its $ move ! (1 ∷ 0 ∷ []) $
+      gives-up ! $ gets ! leader-answer-type a its $ move ! (1 ∷ 0 ∷ []) $
       ends-by ! f.ended (f.clauses 𝓤 H A at run)
       y (ptr-vals b, tt) _ a (b .now, tt) (factI 𝓤 _ (emp 𝓤) (n ∙ ap leaderNumbers e, refl)))))))))
 

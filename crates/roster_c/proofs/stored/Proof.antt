@@ -32,7 +32,7 @@ use Rattle.c_answers.proofs.outcome_numbers.Symbol as numbers-def
 use Rattle.c_answers.proofs.outcome_numbers.Symbol.{name as #c-answers·outcome-numbers}
 use Rattle.c_answers.proofs.outcome_numbers.Met as numbers-thm
 use Rattle.walks.proofs.Locals.{enters, held, field-of, sets, puts, free-all}
-use Rattle.walks.proofs.Plain.{typed, takes, gets, lent, opened, closed, settles}
+use Rattle.walks.proofs.Plain.{typed, takes, gets, lent, opened, closed, gives-up}
 use Rattle.walks.proofs.Calls.{triple, calls-by, ends-by, meets-by, proved}
 use Rattle.roster_c.proofs.Types.{base-type, change-type, outcome-type, call-answer-type, outcome-of}
 use Rattle.roster_c.proofs.stored.Key.{name as #stored}
@@ -75,7 +75,7 @@ module _ {M : Type 1} (𝓤 : URA M) (H : Heap 𝓤) (A : Atoms 𝓤) (W : Given
       move ! (2 ∷ 3 ∷ 4 ∷ 5 ∷ []) $ closed ! tt base-type b x now $
       returns ! (look ! 13 refl) $ free-all ! (_ ∷ _ ∷ _ ∷ _ ∷ _ ∷ []) (_ ∷ _ ∷ _ ∷ _ ∷ _ ∷ []) [] $
       -- [obs; the borrow; its token; the last values; no token]
-      settles ! $ gets ! call-answer-type a its $ move ! (1 ∷ 0 ∷ []) $
+      gives-up ! $ gets ! call-answer-type a its $ move ! (1 ∷ 0 ∷ []) $
       ends-by ! f.ended (f.clauses 𝓤 H A at run) y (ptr-vals b, (change-type .val c ∷ [], tt)) _ a (x, ws .1)
       (factI 𝓤 _ (emp 𝓤) (n, m)))))))))
 

@@ -15,7 +15,7 @@ use Rattle.lists.specs.Choice.{choose}
 use Rattle.lists.specs.Choice.Laws.{choose-ind, choose-yes, choose-no, first-passed, passed, or-false}
 use Rattle.text.specs.Number.Range.{Field}
 use Rattle.lines.specs.Lines.{netLine, idLine, faultyLine}
-use Rattle.lines.specs.Lines.Told.{number-ind, two-ind, TwoTold, FaultyTold, net-told, id-told, faulty-told}
+use Rattle.lines.specs.Lines.Found.{number-ind, two-ind, TwoFound, FaultyFound, net-found, id-found, faulty-found}
 use Rattle.protocol.specs.Sound.{idleBase}
 use Rattle.protocol.specs.Net.{Net, Pair, good, replaced}
 use Rattle.protocol.specs.Agreement.{BaseOf, Setting, Fresh}
@@ -60,8 +60,8 @@ pub net-begins : (s : List ℕ) → Unrefused scheduled (Begins 0) (netStep sche
 unfolding netStep
 net-begins s =
     two-ind (Unrefused scheduled (Begins 0)) (netLine s (unread .at))
-    (TwoTold (unread .at)) (net-told s (unread .at)) (refuse-unrefused (Begins 0) 13 unread (λ e. omega arith))
-    (λ n t next told. judged-unrefused (Begins 0) (sizeRefusal n t)
+    (TwoFound (unread .at)) (net-found s (unread .at)) (refuse-unrefused (Begins 0) 13 unread (λ e. omega arith))
+    (λ n t next found. judged-unrefused (Begins 0) (sizeRefusal n t)
     unread (withSize n t (onward next unread)) (λ e _. let p = size-passed n t e in sized-begins n t next (p .0) (p .1)))
 
 -- ---- `id b v`
@@ -173,7 +173,7 @@ unfolding idStep
 id-begins s m k st l before =
     unless-unrefused (Given m (suc k)) st _ (λ none.
     number-ind (Unrefused scheduled (Given m (suc k))) (idLine (suc k) s (st .at))
-    (Field (st .at)) (id-told (suc k) s (st .at)) (refuse-unrefused (Given m (suc k)) 13 st (λ e. omega arith))
+    (Field (st .at)) (id-found (suc k) s (st .at)) (refuse-unrefused (Given m (suc k)) 13 st (λ e. omega arith))
     (λ v next f. judged-unrefused (Given m (suc k)) (idRefusal (st .net) v) st (withId (suc k) v (onward next st))
     (λ e _. named-begins m k v next st l (omega (arith, f .0)) e (before none))))
 
@@ -214,8 +214,8 @@ pub faulty-begins : (s : List ℕ) (st : Progress) → Unrefused scheduled Whole
 unfolding faultyStep
 faulty-begins s st before =
     unless-unrefused Whole st _ (λ none.
-    two-ind (Unrefused scheduled Whole) (faultyLine (st .n) s (st .at)) (FaultyTold (st .n) (st .at))
-    (faulty-told (st .n) s (st .at)) before
+    two-ind (Unrefused scheduled Whole) (faultyLine (st .n) s (st .at)) (FaultyFound (st .n) (st .at))
+    (faulty-found (st .n) s (st .at)) before
     (λ a b next _. mark-begins a b next st (before none)))
 
 -- ---- the whole header

@@ -14,7 +14,7 @@ use Rattle.lines.specs.declared.event.Line.{Line}
 use Rattle.lines.specs.declared.event.Line.the-variants.{Start, Carry, Forge, Wrong}
 use Rattle.lines.specs.Lines.{isBase, twoBases, eventLine}
 use Rattle.lines.specs.Lines.Laws.{net-base-range, two-range}
-use Rattle.lines.specs.Lines.Told.{EventTold, event-told}
+use Rattle.lines.specs.Lines.Found.{EventFound, event-found}
 use Rattle.protocol.specs.Net.{Net, Pair, Event, starts, carry, forge, eventRefusal, happens, run}
 use Rattle.protocol.specs.Agreement.{BaseOf, Proper, AllProper}
 use Rattle.protocol.specs.Agreement.Longer.{run-more, proper-more}
@@ -71,16 +71,16 @@ event-continues begin st e next p T =
     st (withNet (happens (st .faulty) (st .net) e) (onward next st)) (λ _ _. continues-more begin st e next p T)
 
 line-continues : (s : List ℕ) (begin st : Progress) (p : ℕ) (x : Line)
-    → EventTold (st .n) s p x → Continues begin st → Unrefused scheduled (Continues begin) (lineStep scheduled s x st)
+    → EventFound (st .n) s p x → Continues begin st → Unrefused scheduled (Continues begin) (lineStep scheduled s x st)
 unfolding lineStep
-line-continues s begin st p (Start b next) told T =
-    event-continues begin st (starts b outputRoom) next (proper-start (st .n) b outputRoom (told .0)) T
-line-continues s begin st p (Carry a b k next) told T =
-    event-continues begin st (carry a b k outputRoom) next (proper-carry (st .n) a b k outputRoom (told .0)) T
-line-continues s begin st p (Forge a b at count next) told T =
+line-continues s begin st p (Start b next) found T =
+    event-continues begin st (starts b outputRoom) next (proper-start (st .n) b outputRoom (found .0)) T
+line-continues s begin st p (Carry a b k next) found T =
+    event-continues begin st (carry a b k outputRoom) next (proper-carry (st .n) a b k outputRoom (found .0)) T
+line-continues s begin st p (Forge a b at count next) found T =
     event-continues begin st (forge a b (hexBytes count (drop at s)) outputRoom)
-    next (proper-forge (st .n) a b count outputRoom (drop at s) (told .0)) T
-line-continues s begin st p Wrong told T = refuse-unrefused (Continues begin) 13 st (λ e. omega arith)
+    next (proper-forge (st .n) a b count outputRoom (drop at s) (found .0)) T
+line-continues s begin st p Wrong found T = refuse-unrefused (Continues begin) 13 st (λ e. omega arith)
 
 pub next-continues : (s : List ℕ) (begin st : Progress)
     → Unrefused scheduled (Continues begin) st → Unrefused scheduled (Continues begin) (nextLine scheduled s st)
@@ -88,7 +88,7 @@ unfolding nextLine
 next-continues s begin st before =
     unless-unrefused (Continues begin) st _ (λ none.
     choose-ind (Unrefused scheduled (Continues begin)) (leb (length s) (st .at)) (λ _. before)
-    (λ _. line-continues s begin st (st .at) (eventLine (st .n) s (st .at)) (event-told (st .n) s (st .at)) (before none)))
+    (λ _. line-continues s begin st (st .at) (eventLine (st .n) s (st .at)) (event-found (st .n) s (st .at)) (before none)))
 
 -- ---- many lines
 pub lines-continue : (s : List ℕ) (begin : Progress) (k : ℕ) → Unrefused scheduled (Continues begin) (repeat k (nextLine scheduled s) begin)

@@ -15,9 +15,9 @@ use Rattle.hexadecimal.specs.Hex.{hexBytes}
 use Rattle.lines.specs.declared.event.Line.{Line}
 use Rattle.lines.specs.declared.event.Line.the-variants.{Start, Carry, Forge, Wrong}
 use Rattle.lines.specs.Lines.{eventLine}
-use Rattle.lines.specs.Lines.Told.{EventTold, event-told}
+use Rattle.lines.specs.Lines.Found.{EventFound, event-found}
 use Rattle.protocol.specs.Steps.{outputRefusal}
-use Rattle.protocol.specs.Net.{Net, Pair, Event, starts, carry, forge, call, callRefusal, eventRefusal, refusal, settled, happens}
+use Rattle.protocol.specs.Net.{Net, Pair, Event, starts, carry, forge, call, callRefusal, eventRefusal, refusal, netAfter, happens}
 use Rattle.protocol.specs.Agreement.{Orderly}
 use Rattle.protocol.specs.Agreement.Besides.{orderly}
 use Rattle.schedule.specs.Walk.{judged, eventStep, lineStep, nextLine, repeat}
@@ -27,7 +27,7 @@ use Rattle.schedule.specs.Meaning.Continues.{Continues, lines-continue, 
 
 -- the next line begins at `next`, and the event has been carried out
 unfoldable pub carriedOut : Event → ℕ → Progress → Progress
-carriedOut e next st = withNet (settled (st .net) e) (onward next st)
+carriedOut e next st = withNet (netAfter (st .net) e) (onward next st)
 
 -- what a line does: a start is carried out; a carry that 16 and 17 let pass is; a forgery that 18 lets pass is, if its burst is not
 -- turned down (7 to 12)
@@ -68,7 +68,7 @@ module _ (st : Progress) (e : Event) (next : ℕ) where
       → withNet (happens (st .faulty) (st .net) e) (onward next st) ≡ choose (eqb r 0) (carriedOut e next st) (onward next st)
   unfolding happens carriedOut
   call-effect {r} q =
-      ap (λ (k : ℕ). withNet (choose (eqb k 0) (settled (st .net) e) (st .net)) (onward next st)) q
+      ap (λ (k : ℕ). withNet (choose (eqb k 0) (netAfter (st .net) e) (st .net)) (onward next st)) q
       ∙ choose-ind (λ (W : Net). withNet W (onward next st) ≡ choose (eqb r 0) (carriedOut e next st) (onward next st)) (eqb r 0)
       (λ y. sym (choose-yes _ _ y)) (λ y. stays ∙ sym (choose-no _ _ y))
     where
@@ -87,21 +87,21 @@ module _ (st : Progress) (e : Event) (next : ℕ) where
       cases false q = choose-no _ _ q ∙ sym (choose-no _ _ q)
 
 module _ (st : Progress) (O : Orderly (st .n) (st .t) (st .faulty) (st .net)) where
-  line-effect : (s : List ℕ) (p : ℕ) (x : Line) → EventTold (st .n) s p x → Effect s st x
+  line-effect : (s : List ℕ) (p : ℕ) (x : Line) → EventFound (st .n) s p x → Effect s st x
   unfolding lineStep
-  line-effect s p (Start b next) told =
+  line-effect s p (Start b next) found =
       event-effect st (starts b outputRoom)
-      next (λ _. O .start-call b outputRoom (proper-start (st .n) b outputRoom (told .0)) ∙ room-passed)
+      next (λ _. O .start-call b outputRoom (proper-start (st .n) b outputRoom (found .0)) ∙ room-passed)
       ∙ (unfold eventRefusal judged choose in refl)
-  line-effect s p (Carry a b k next) told =
-      let P = proper-carry (st .n) a b k outputRoom (told .0) in
+  line-effect s p (Carry a b k next) found =
+      let P = proper-carry (st .n) a b k outputRoom (found .0) in
       event-effect st (carry a b k outputRoom) next (λ e. O .carry-call a b k outputRoom (P .0) (P .1) (P .2) e ∙ room-passed)
       ∙ (unfold choose in refl)
-  line-effect s p (Forge a b at count next) told =
-      let P = proper-forge (st .n) a b count outputRoom (drop at s) (told .0) in
+  line-effect s p (Forge a b at count next) found =
+      let P = proper-forge (st .n) a b count outputRoom (drop at s) (found .0) in
       event-effect st (forge a b (hexBytes count (drop at s)) outputRoom) next
       (λ _. O .forge-call a b outputRoom (hexBytes count (drop at s)) (P .0) (P .1) (P .2) ∙ first-none _ room-passed)
-  line-effect s p Wrong told = refl
+  line-effect s p Wrong found = refl
 
 -- ---- after any number of lines
 orderly-from : (begin st : Progress) → Whole begin → Continues begin st → Orderly (st .n) (st .t) (st .faulty) (st .net)
@@ -118,4 +118,4 @@ effects s k e =
     let st = repeat k (nextLine scheduled s) (header s) in
     line-effect
     st (orderly-from (header s) st (header-begins s (lines-unrefused s (header s) k e)) (lines-continue s (header s) k e)) s (st .at)
-    (eventLine (st .n) s (st .at)) (event-told (st .n) s (st .at))
+    (eventLine (st .n) s (st .at)) (event-found (st .n) s (st .at))

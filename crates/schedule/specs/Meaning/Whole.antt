@@ -12,7 +12,7 @@ use Rattle.hexadecimal.specs.Hex.{hexBytes}
 use Rattle.lines.specs.declared.event.Line.{Line}
 use Rattle.lines.specs.declared.event.Line.the-variants.{Start, Carry, Forge, Wrong}
 use Rattle.lines.specs.Lines.{eventLine}
-use Rattle.lines.specs.Lines.Told.{EventTold, event-told}
+use Rattle.lines.specs.Lines.Found.{EventFound, event-found}
 use Rattle.protocol.specs.Net.{Event, starts, carry, forge, eventRefusal, happens}
 use Rattle.schedule.specs.Walk.{linesWalk, eventStep, lineStep, nextLine, repeat}
 use Rattle.schedule.specs.Meaning.{Progress, onward, withNet, wholeSchedule, header, scheduled}
@@ -36,13 +36,13 @@ event-reaches s k st e next h =
     st (withNet (happens (st .faulty) (st .net) e) (onward next st)) (λ _ _. there s k st e next h)
 
 line-reaches : (s : List ℕ) (k : ℕ) (st : Progress) (x : Line)
-    → k ≤ st .at → EventTold (st .n) s (st .at) x → Unrefused scheduled (Reaches s (suc k)) (lineStep scheduled s x st)
+    → k ≤ st .at → EventFound (st .n) s (st .at) x → Unrefused scheduled (Reaches s (suc k)) (lineStep scheduled s x st)
 unfolding lineStep
-line-reaches s k st (Start b next) h told = event-reaches s k st (starts b outputRoom) next (omega (arith, told .1))
-line-reaches s k st (Carry a b j next) h told = event-reaches s k st (carry a b j outputRoom) next (omega (arith, told .1 .1))
-line-reaches s k st (Forge a b at count next) h told =
-    event-reaches s k st (forge a b (hexBytes count (drop at s)) outputRoom) next (omega (arith, told .1 .1 .1))
-line-reaches s k st Wrong h told = refuse-unrefused (Reaches s (suc k)) 13 st (λ e. omega arith)
+line-reaches s k st (Start b next) h found = event-reaches s k st (starts b outputRoom) next (omega (arith, found .1))
+line-reaches s k st (Carry a b j next) h found = event-reaches s k st (carry a b j outputRoom) next (omega (arith, found .1 .1))
+line-reaches s k st (Forge a b at count next) h found =
+    event-reaches s k st (forge a b (hexBytes count (drop at s)) outputRoom) next (omega (arith, found .1 .1 .1))
+line-reaches s k st Wrong h found = refuse-unrefused (Reaches s (suc k)) 13 st (λ e. omega arith)
 
 next-reaches : (s : List ℕ) (k : ℕ) (st : Progress) → Unrefused scheduled (Reaches s k) st
     → Unrefused scheduled (Reaches s (suc k)) (nextLine scheduled s st)
@@ -54,7 +54,7 @@ next-reaches s k st before =
   where
     go : Reaches s k st → st .at < length s
         → Unrefused scheduled (Reaches s (suc k)) (lineStep scheduled s (eventLine (st .n) s (st .at)) st)
-    go (inl h) l = line-reaches s k st (eventLine (st .n) s (st .at)) h (event-told (st .n) s (st .at))
+    go (inl h) l = line-reaches s k st (eventLine (st .n) s (st .at)) h (event-found (st .n) s (st .at))
     go (inr h) l = absurd (omega arith)
 
 repeat-reaches : (s : List ℕ) (k : ℕ) (st : Progress) → Unrefused scheduled (Reaches s k) (repeat k (nextLine scheduled s) st)

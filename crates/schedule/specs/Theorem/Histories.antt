@@ -16,7 +16,7 @@ use Rattle.protocol.specs.Record.{finalList}
 use Rattle.protocol.specs.Sound.{idle}
 use Rattle.protocol.specs.Sound.Laws.{record-passed, sound-parts}
 use Rattle.protocol.specs.Steps.{leaderOf}
-use Rattle.protocol.specs.Net.{Net, Pair, Event, at, replaced, refusal, settled, happens, run, started, hasStopped, waiting, leaderNamed}
+use Rattle.protocol.specs.Net.{Net, Pair, Event, at, replaced, refusal, netAfter, happens, run, started, hasStopped, waiting, leaderNamed}
 use Rattle.protocol.specs.Agreement.{BaseOf, Setting, Fresh, AllProper, trueIdentifiers}
 use Rattle.protocol.specs.Agreement.Cases.{prime-or-secondary}
 use Rattle.protocol.specs.Agreement.Theorem.{agreement}
@@ -25,13 +25,13 @@ use Rattle.protocol.specs.Agreement.Besides.{orderly}
 -- ---- an event at another base, or one that is turned down, leaves a base alone
 event-elsewhere : (faulty : List Pair) (W : Net) (e : Event) (b : ℕ)
     → and (eqb (at e) b) (eqb (refusal faulty W e) 0) ≡ false → happens faulty W e .base b ≡ W .base b
-unfolding happens settled replaced and
+unfolding happens netAfter replaced and
 event-elsewhere faulty W e b h = cases (eqb (refusal faulty W e) 0) refl (eqb (at e) b) refl
   where
     cases : (x : Bool) → eqb (refusal faulty W e) 0 ≡ x → (y : Bool) → eqb (at e) b ≡ y → happens faulty W e .base b ≡ W .base b
-    cases false q y r = ap (λ (M : Net). M .base b) (choose-no (settled W e) W q)
+    cases false q y r = ap (λ (M : Net). M .base b) (choose-no (netAfter W e) W q)
     cases true q false r =
-        ap (λ (M : Net). M .base b) (choose-yes (settled W e) W q)
+        ap (λ (M : Net). M .base b) (choose-yes (netAfter W e) W q)
         ∙ choose-no _ (W .base b) (ne-eqb b (at e) (λ same. eqb-false (at e) b r (sym same)))
     cases true q true r = clash (and-both r q) h
 

@@ -2,12 +2,12 @@
 -- agreement holds of it.
 use Prim.Native.Nat.{ℕ, _≤_}
 use mathlib.Core.Path.{_≡_, refl, sym, ap, ap₂, _∙_, subst}
-use mathlib.Core.Bool.{Bool, true, false}
 use mathlib.Core.List.{List, _++_}
 use native.Mathlib.Omega.{arith}
 use borrow.Author.Tests.{eqb-false}
 use lib.Dec.{eqb, leb}
 use Rattle.lists.specs.Choice.{choose}
+use Rattle.lists.specs.Choice.Laws.{choose-same}
 use Rattle.lists.specs.Lists.{sort}
 use Rattle.print.specs.Decimal.{fieldText}
 use Rattle.protocol.specs.declared.Base.{Base}
@@ -48,11 +48,6 @@ pub record StatesAgree (s : List ℕ) (st : Progress) : Type 0 where
       → (b : ℕ) → BaseOf (st .n) b → 2 ≤ st .net .base b .state
 
 -- ---- the text of a base
-choose-same : {A : Type 0} (t : Bool) {a b c d : A} → (t ≡ true → a ≡ c) → (t ≡ false → b ≡ d) → choose t a b ≡ choose t c d
-unfolding choose
-choose-same true f g = f refl
-choose-same false f g = g refl
-
 roster-is : (l ids : List ℕ) → l ≡ sort ids → leaderOf l ≡ leaderOf ids → finalText l ≡ rosterText ids
 unfolding finalText rosterText
 roster-is l ids e f = ap₂ (λ (x : List ℕ) (v : ℕ). listText x ++ fieldText leaderText v) e f
@@ -78,8 +73,8 @@ module _ (begin : Progress) (B : Whole begin) (st : Progress) (T : Continues beg
   base-of : (b : ℕ) → BaseOf (st .n) b → BaseOf (begin .n) b
   base-of b = subst (λ (k : ℕ). BaseOf k b) (T .n)
 
-  told-text : (b : ℕ) → BaseOf (st .n) b → stateText (st .net .base b) ≡ agreedText (st .net .base b .state) ids
-  told-text b C =
+  history-text : (b : ℕ) → BaseOf (st .n) b → stateText (st .net .base b) ≡ agreedText (st .net .base b .state) ids
+  history-text b C =
       let S = begins-setting begin B in
       let F = begins-fresh begin B in
       of-net (λ (W : Net). stateText (W .base b) ≡ agreedText (W .base b .state) ids)
@@ -87,21 +82,21 @@ module _ (begin : Progress) (B : Whole begin) (st : Progress) (T : Continues beg
       (final-by (begin .n) (begin .t) (begin .faulty) (begin .net) S F (T .events) (T .proper) b (base-of b C) h)
       (leader-by (begin .n) (begin .t) (begin .faulty) (begin .net) S F (T .events) (T .proper) b (base-of b C) h)))
 
-  told-states : (b : ℕ) → BaseOf (st .n) b → st .net .base b .state ≤ 3
-  told-states b C =
+  history-states : (b : ℕ) → BaseOf (st .n) b → st .net .base b .state ≤ 3
+  history-states b C =
       of-net (λ (W : Net). W .base b .state ≤ 3)
       (state-most (begin .n) (begin .t)
       (begin .faulty) (begin .net) (begins-setting begin B) (begins-fresh begin B) (T .events) (T .proper) b (base-of b C))
 
-  told-stops : (b : ℕ) → BaseOf (st .n) b → hasStopped (st .net) b ≡ leb 2 (st .net .base b .state)
-  told-stops b C =
+  history-stops : (b : ℕ) → BaseOf (st .n) b → hasStopped (st .net) b ≡ leb 2 (st .net .base b .state)
+  history-stops b C =
       of-net (λ (W : Net). hasStopped W b ≡ leb 2 (W .base b .state))
       (stops-by (begin .n) (begin .t)
       (begin .faulty) (begin .net) (begins-setting begin B) (begins-fresh begin B) (T .events) (T .proper) b (base-of b C))
 
-  told-ends : waiting (st .n) (st .faulty) (st .net) ≡ 0
+  history-ends : waiting (st .n) (st .faulty) (st .net) ≡ 0
       → ((b : ℕ) → BaseOf (st .n) b → 1 ≤ st .net .base b .state) → (b : ℕ) → BaseOf (st .n) b → 2 ≤ st .net .base b .state
-  told-ends none all b C =
+  history-ends none all b C =
       of-net (λ (W : Net). waiting (begin .n) (begin .faulty) W ≡ 0
       → ((a : ℕ) → BaseOf (begin .n) a → 1 ≤ W .base a .state) → 2 ≤ W .base b .state)
       (λ w runs. ends-by (begin .n) (begin .t) (begin .faulty)
@@ -118,10 +113,10 @@ whole-agree s e =
     record {
       bases = T .n;
       faulty = T .faulty;
-      text = told-text (header s) B (wholeSchedule s) T;
-      states = told-states (header s) B (wholeSchedule s) T;
-      stops = told-stops (header s) B (wholeSchedule s) T;
-      ends = told-ends (header s) B (wholeSchedule s) T;
+      text = history-text (header s) B (wholeSchedule s) T;
+      states = history-states (header s) B (wholeSchedule s) T;
+      stops = history-stops (header s) B (wholeSchedule s) T;
+      ends = history-ends (header s) B (wholeSchedule s) T;
     }
 
 pub states-agree : (s : List ℕ) → meaning s .refusal ≡ 0 → StatesAgree s (meaning s)

@@ -1,5 +1,5 @@
 -- `settling::said` meets its contract: a message that is discarded broadcasts nothing.
-use Rattle.settling.specs.Settling.{toldFrames, toldOutcome}
+use Rattle.settling.specs.Settling.{responseFrames, responseOutcome}
 use Rattle.frame.specs.Encoding.{over}
 use Rattle.frame.specs.Encoding.Laws.{over-nothing}
 use Rattle.lists.specs.Choice.Laws.{choose-yes, choose-no}
@@ -12,7 +12,7 @@ use Rattle.settling.proofs.said.Statement.{statement}
 use Rattle.settling.proofs.said.Tie as tie
 
 returns : tie.Need-returns
-unfolding toldFrames toldOutcome
+unfolding responseFrames responseOutcome
 returns c = let t = not-true _ (c .if1 .taken) in let o = c .before .before .args .out .now in
     (sym (choose-no _ _ t), sym (ap (λ (s : List ℕ). over s o) (choose-no _ _ t) ∙ over-nothing o))
 
@@ -23,7 +23,7 @@ same-length : tie.Need-same-length
 same-length c = search needs
 
 returns-2 : tie.Need-returns-2
-unfolding toldFrames toldOutcome
+unfolding responseFrames responseOutcome
 returns-2 c = let t = not-false _ (c .before .before .before .before .before .if1 .left) in let w = c .before .before .broadcast .ensures in
     let o = c .before .before .before .before .before .before .before .args .out .now in
     (w .0 ∙ sym (choose-yes _ _ t), w .1 ∙ sym (ap (λ (s : List ℕ). over s o) (choose-yes _ _ t)))

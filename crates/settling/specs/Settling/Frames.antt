@@ -65,13 +65,13 @@ two-said (m ∷ (k ∷ a)) b p q = absurd (omega arith)
 two-said [] (m ∷ (k ∷ b)) p q = absurd (omega arith)
 two-said (m ∷ []) (k ∷ (j ∷ b)) p q = absurd (omega arith)
 
-few-first : (n first : ℕ) (ids : List ℕ) → length (firstSaid n first ids) ≤ 1
+few-first-said : (n first : ℕ) (ids : List ℕ) → length (firstSaid n first ids) ≤ 1
 unfolding firstSaid
-few-first n first ids = choose-ind (λ (l : List Message). length l ≤ 1) (eqb first 0) (λ _. omega arith) (λ _. omega arith)
+few-first-said n first ids = choose-ind (λ (l : List Message). length l ≤ 1) (eqb first 0) (λ _. omega arith) (λ _. omega arith)
 
-few-last : (n : ℕ) (stops : Bool) (list : List ℕ) → length (lastSaid n stops list) ≤ 1
+few-last-said : (n : ℕ) (stops : Bool) (list : List ℕ) → length (lastSaid n stops list) ≤ 1
 unfolding lastSaid
-few-last n stops list = choose-ind (λ (l : List Message). length l ≤ 1) stops (λ _. omega arith) (λ _. omega arith)
+few-last-said n stops list = choose-ind (λ (l : List Message). length l ≤ 1) stops (λ _. omega arith) (λ _. omega arith)
 
 -- ---- the frames
 -- a frame that there is room for
@@ -165,8 +165,8 @@ module _ (b c : Base) (D : Decision) (ids output : List ℕ) (F : FirstKind (D .
   said-does r after p q k = record {
     changes = record {
       outcome = p ∙ ap₂ (λ (f g : List ℕ). acceptedWith (length f) (length g)) first-is last-is
-          ∙ two-said (firstSaid (c .n) (D .first) ids) (lastSaid (c .n) (D .stops) (D .«final_list»)) (few-first (c .n) (D .first) ids)
-          (few-last (c .n) (D .stops) (D .«final_list»));
+          ∙ two-said (firstSaid (c .n) (D .first) ids) (lastSaid (c .n) (D .stops) (D .«final_list»)) (few-first-said (c .n) (D .first) ids)
+          (few-last-said (c .n) (D .stops) (D .«final_list»));
       base = k;
     };
     written = q ∙ ap (λ (f : List ℕ). over f output) (ap₂ _++_ first-is last-is ∙ sym bytes);

@@ -25,7 +25,7 @@ use Rattle.change.specs.declared.Change.{Change}
 use Rattle.accepting.specs.declared.Accepted.{Accepted}
 use Rattle.deciding.specs.declared.Decision.{Decision}
 use Rattle.broadcasting.specs.Broadcasting.{behindStart}
-use Rattle.settling.specs.Settling.{toldChange}
+use Rattle.settling.specs.Settling.{responseChange}
 use Rattle.starting.specs.Starting.{startFrames, startLength, firstChange}
 
 -- ---- what `put_two` puts
@@ -110,7 +110,7 @@ start-says b room h =
 -- ---- what a first message changes
 pub first-change : (n own i : ℕ) (a : Accepted) (d : Decision) (ids : List ℕ) (room front next part : ℕ) (o : Outcome) (rest : Change)
     → front ≡ startLength room → next ≡ startLength room → part ≡ room - length (startFrames own room)
-    → rest ≡ toldChange n i a d ids part → o ≡ behindStart front next (rest .outcome)
+    → rest ≡ responseChange n i a d ids part → o ≡ behindStart front next (rest .outcome)
     → _≡_ {A = Change} (record {
       outcome = o;
       state = rest .state;
@@ -119,9 +119,9 @@ pub first-change : (n own i : ℕ) (a : Accepted) (d : Decision) (ids : List ℕ
       link = rest .link;
       «final_list» = rest .«final_list»;
     }) (firstChange n own i a d ids room)
-unfolding firstChange toldChange
+unfolding firstChange responseChange
 first-change n own i a d ids room front next part o rest e f g p q =
-    let k : rest ≡ toldChange n i a d ids (room - length (startFrames own room)) = p ∙ ap (toldChange n i a d ids) g in
+    let k : rest ≡ responseChange n i a d ids (room - length (startFrames own room)) = p ∙ ap (responseChange n i a d ids) g in
     ap₂ (λ (x : Outcome) (c : Change). record {
       outcome = x;
       state = c .state;

@@ -22,8 +22,8 @@ accepted-at-requires c κs = search needs
 decided-requires : tie.Need-decided-requires
 decided-requires c κs = search needs
 
-told-requires : tie.Need-told-requires
-told-requires c κs = search needs
+respond-requires : tie.Need-respond-requires
+respond-requires c κs = search needs
 
 same-length : tie.Need-same-length
 same-length c = search needs
@@ -31,7 +31,7 @@ same-length c = search needs
 returns-2 : tie.Need-returns-2
 unfolding idle stopped
 returns-2 c = let d = c .before .before .before .before in let h = d .before in let e = h .before .before in
-    let w = c .before .before .told .ensures in let a = e .before .before .before .before .args in
+    let w = c .before .before .respond .ensures in let a = e .before .before .before .before .args in
     accepted-as (h .accepted-at .ensures) (step-running (a .base) (a .i) _ (a .kind) (a .ids) (a .out .now) _
     (lt-leb 2 _ (e .before .if1 .left)) _ (d .decided .ensures) _ (ne-eqb _ 0 (h .before .if2 .taken)) (w .0) (w .1))
 
@@ -41,8 +41,8 @@ accepted-at-requires-2 c κs = search needs
 decided-requires-2 : tie.Need-decided-requires-2
 decided-requires-2 c κs = search needs
 
-told-first-requires : tie.Need-told-first-requires
-told-first-requires c κs = search needs
+respond-first-requires : tie.Need-respond-first-requires
+respond-first-requires c κs = search needs
 
 same-length-2 : tie.Need-same-length-2
 same-length-2 c = search needs
@@ -50,7 +50,7 @@ same-length-2 c = search needs
 returns-3 : tie.Need-returns-3
 unfolding idle stopped
 returns-3 c = let d = c .before .before .before .before in let h = d .before in let e = h .before .before in
-    let w = c .before .before .told-first .ensures in let a = e .before .before .before .before .args in
+    let w = c .before .before .respond-first .ensures in let a = e .before .before .before .before .args in
     accepted-as (h .accepted-at2 .ensures) (step-idle (a .base) (a .i) _ (a .kind) (a .ids) (a .out .now) _
     (lt-leb 2 _ (e .before .if1 .left)) _ (d .decided2 .ensures) _ (eq-eqb _ 0 (h .before .if2 .left)) (w .0) (w .1))
 
@@ -62,11 +62,11 @@ step-spec =
     returns
     accepted-at-requires
     decided-requires
-    told-requires
+    respond-requires
     same-length
     returns-2
     accepted-at-requires-2
     decided-requires-2
-    told-first-requires
+    respond-first-requires
     same-length-2
     returns-3)

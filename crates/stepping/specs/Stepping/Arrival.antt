@@ -26,16 +26,16 @@ use Rattle.accepting.specs.declared.Accepted.{Accepted}
 use Rattle.deciding.specs.declared.Decision.{Decision}
 use Rattle.broadcasting.specs.Broadcasting.{behindStart}
 use Rattle.broadcasting.specs.Broadcasting.Laws.{rest-length}
-use Rattle.settling.specs.Settling.{Place, withinLinks, acceptedAt, decidedAt, toldFrames, toldOutcome, toldChange}
-use Rattle.settling.specs.Settling.Told.{told-does}
+use Rattle.settling.specs.Settling.{Place, withinLinks, acceptedAt, decidedAt, responseFrames, responseOutcome, responseChange}
+use Rattle.settling.specs.Settling.Response.{response-does}
 use Rattle.starting.specs.Starting.{startFrames, startLength, firstFrames, firstChange}
 use Rattle.starting.specs.Starting.Laws.{start-long, start-fits, start-length-is, start-says}
-use Rattle.stepping.specs.Stepping.{unstoppedChange, unstoppedFrames, stepOutcome, stepBase, stepFrames, Steps}
+use Rattle.stepping.specs.Stepping.{unstoppedChange, unstoppedFrames, stepOutcome, stepBase, stepFrames, StepsAs}
 use Rattle.stepping.specs.Stepping.First.{Ready, ready-within, message-room, arrival-running, behind-does}
 
 module _ (b : Base) (i kind : ℕ) (ids output : List ℕ) (R : Ready b i) (M : MessageIn (b .n) kind ids) (z : length ids ≡ mostBases)
     (wide : outputRoom ≤ length output) (a : Accepted) (e : a ≡ acceptedAt b i kind ids) (r : Change) (after : List ℕ)
-    (S : Steps b i a kind ids r output after) where
+    (S : StepsAs b i a kind ids r output after) where
   m : Done
   m = onMessage (begun b) i (messageIn (b .n) kind ids)
 
@@ -65,17 +65,17 @@ module _ (b : Base) (i kind : ℕ) (ids output : List ℕ) (R : Ready b i) (M : 
   )
 
   -- ---- a running one
-  told : (part : List ℕ) → length (encodeAll (m .says)) ≤ length part
-      → Does b m (toldChange (b .n) i a D ids (length part)) part (over (toldFrames (b .n) (a .accepted) D ids (length part)) part)
+  responds : (part : List ℕ) → length (encodeAll (m .says)) ≤ length part
+      → Does b m (responseChange (b .n) i a D ids (length part)) part (over (responseFrames (b .n) (a .accepted) D ids (length part)) part)
   unfolding m
-  told part h =
+  responds part h =
       let P : Place b i = record { net = record-passed b (R .refusal) .net; here = R .here } in
-      told-does b i kind ids part P M z a D e decides h _ _ refl refl
+      response-does b i kind ids part P M z a D e decides h _ _ refl refl
 
   runs : stopped b ≡ false → idle b ≡ false → Does b m r output after
   unfolding unstoppedChange unstoppedFrames withState
   runs t k =
-      let T = told output (omega (arith, wide, room)) in
+      let T = responds output (omega (arith, wide, room)) in
       let G = goes-on t in record {
         changes = record {
           outcome = G .0 ∙ ap (λ (c : Change). c .outcome) (choose-no _ _ k) ∙ T .changes .outcome;
@@ -109,25 +109,25 @@ module _ (b : Base) (i kind : ℕ) (ids output : List ℕ) (R : Ready b i) (M : 
       sym (over-rest start f output _ _ _ _ refl refl refl refl) ∙ over-rest start g output _ _ _ _ refl refl refl p
 
   starts : Sized b → stopped b ≡ false → idle b ≡ true → Does b (afterStart b m) r output after
-  unfolding m start unstoppedChange unstoppedFrames firstChange firstFrames toldChange changedBase outputOf
+  unfolding m start unstoppedChange unstoppedFrames firstChange firstFrames responseChange changedBase outputOf
   starts Z t k =
       let room = length output in
       let small = idle-first b Z (R .refusal) k i (R .here) (messageIn (b .n) kind ids) .brief .small in
       let one : startLength room ≡ frameBytes 1 = start-length-is room (omega (arith, wide)) in
-      let T = told rest (omega (arith, wide, small, rest-long, start-long (b .own) room, one)) in
+      let T = responds rest (omega (arith, wide, small, rest-long, start-long (b .own) room, one)) in
       let same : room - length start ≡ length rest = sym rest-long in
       let G = goes-on t in
-      behind-does b m (toldChange (b .n) i a D ids (length rest)) r (startLength room) (startLength room) _ _ output after T one one
+      behind-does b m (responseChange (b .n) i a D ids (length rest)) r (startLength room) (startLength room) _ _ output after T one one
       (G .0 ∙ ap (λ (c : Change). c .outcome) (choose-yes _ _ k) ∙ ap (λ (l : ℕ). firstOutcome l) same)
       (G .1 .0 ∙ ap (changedBase b) (choose-yes _ _ k))
       (G .1 .1 ∙ ap (λ (s : List ℕ). over s output) (choose-yes _ _ k)
-      ∙ ap (λ (l : ℕ). over (start ++ toldFrames (b .n) (a .accepted) D ids l) output) same
+      ∙ ap (λ (l : ℕ). over (start ++ responseFrames (b .n) (a .accepted) D ids l) output) same
       ∙ behind _ _ (T .written)
       ∙ ap (λ (s : List ℕ). over (s ++ encodeAll (m .says)) output) (start-says b room (omega (arith, wide))))
     where
       firstOutcome : ℕ → Outcome
       firstOutcome l =
-          behindStart (startLength (length output)) (startLength (length output)) (toldOutcome (b .n) (a .accepted) D ids l)
+          behindStart (startLength (length output)) (startLength (length output)) (responseOutcome (b .n) (a .accepted) D ids l)
 
   -- ---- in any state
   pub step-does : Sized b → Does b (arrivalStep b i (messageIn (b .n) kind ids)) r output after

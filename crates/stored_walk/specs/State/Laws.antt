@@ -16,7 +16,7 @@ use Rattle.lines.specs.declared.bases.Two.{Two}
 use Rattle.lines.specs.declared.bases.Two.the-variants.{Both, Neither}
 use Rattle.lines.specs.declared.event.Line.{Line}
 use Rattle.lines.specs.declared.event.Line.the-variants.{Start, Carry, Forge, Wrong}
-use Rattle.lines.specs.Lines.Told.{EventTold, event-told}
+use Rattle.lines.specs.Lines.Found.{EventFound, event-found}
 use Rattle.lines.specs.Lines.{afterNumber, afterTwo, netLine, idLine, faultyLine, eventLine}
 use Rattle.protocol.specs.Net.{Event, starts, carry, forge, good, at, refusal}
 use Rattle.net.specs.declared.StoredNet.{StoredNet}
@@ -263,10 +263,10 @@ faulties-near s zero m p h = omega arith
 faulties-near s (suc k) m p h = omega (arith, faulty-near s (m + k) (repeat k (faultyStep replaying s) p) (faulties-near s k m p h))
 
 -- ---- a line that has its form has its bytes
-pub told-bytes : (n : ℕ) (s : List ℕ) (i : ℕ) → HasBytes s (eventLine n s i)
-told-bytes n s i = go (eventLine n s i) (event-told n s i)
+pub found-bytes : (n : ℕ) (s : List ℕ) (i : ℕ) → HasBytes s (eventLine n s i)
+found-bytes n s i = go (eventLine n s i) (event-found n s i)
   where
-    go : (x : Line) → EventTold n s i x → HasBytes s x
+    go : (x : Line) → EventFound n s i x → HasBytes s x
     go (Start b next) t = tt
     go (Carry a b k next) t = tt
     go (Forge a b at count next) t = (t .1 .0, t .1 .1 .0)

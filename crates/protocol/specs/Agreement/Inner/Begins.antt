@@ -48,7 +48,7 @@ module _ (n t : ℕ) (faulty : ℕ → ℕ → ℕ) (id : ℕ → ℕ) (truth : 
   pub invariant-begins : Invariant n t faulty id truth (seen N)
   invariant-begins = record {
     sound = λ x l. (unfold seen in member-sound n t (id x) x (N .base x) l (F .member x l));
-    settled = λ x l. record {
+    quiescent = λ x l. record {
       not-prime = λ e. absurd (omega (arith, off x l));
       not-secondary = λ v e. absurd (omega (arith, off x l));
       has-voted = λ v e. absurd (omega (arith, off x l));

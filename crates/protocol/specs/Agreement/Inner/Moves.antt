@@ -16,7 +16,7 @@ use Rattle.protocol.specs.Steps.Refusals.{Heard}
 use Rattle.protocol.specs.Steps.Broadcasts.{AllValid, Spoken, start-step-spoken, arrival-step-spoken}
 use Rattle.protocol.specs.Net.{replaced}
 use Rattle.protocol.specs.Agreement.Views.{Said}
-use Rattle.protocol.specs.Agreement.Calls.{ViewInput, startInput, messageInput, Settled, ViewCall}
+use Rattle.protocol.specs.Agreement.Calls.{ViewInput, startInput, messageInput, Quiescent, ViewCall}
 use Rattle.protocol.specs.Agreement.Invariant.{broadcastAt}
 use Rattle.protocol.specs.Agreement.NetSteps.{NetStep}
 use Rattle.protocol.specs.Agreement.Observers.{placeOf, view}
@@ -61,12 +61,12 @@ member-heard n t y y-in own b M x x-in ne m w = record {
   valid = subst (λ k. Valid k m) (sym (M .n-is)) w;
 }
 
-module _ (n t : ℕ) (y : ℕ) (y-in : y < n) (own : ℕ) (b : Base) (M : Member n t own b) (settled : Settled n t y (view y b)) where
+module _ (n t : ℕ) (y : ℕ) (y-in : y < n) (own : ℕ) (b : Base) (M : Member n t own b) (quiescent : Quiescent n t y (view y b)) where
   inside : y < b .n
   inside = subst (λ k. y < k) (sym (M .n-is)) y-in
 
-  settled-own : Settled (b .n) (b .t) y (view y b)
-  settled-own = subst₂ (λ k s. Settled k s y (view y b)) (sym (M .n-is)) (sym (M .t-is)) settled
+  quiescent-own : Quiescent (b .n) (b .t) y (view y b)
+  quiescent-own = subst₂ (λ k s. Quiescent k s y (view y b)) (sym (M .n-is)) (sym (M .t-is)) quiescent
 
   move : (i : ViewInput) (d : Done) → ViewCall (b .n) (b .t) y (b .own) i (view y b) (view y (d .base)) (d .says) → Kept b d → Spoken b d
       → Move n t y own i b d
@@ -84,7 +84,7 @@ module _ (n t : ℕ) (y : ℕ) (y-in : y < n) (own : ℕ) (b : Base) (M : Member
   }
 
   pub start-moves : Move n t y own startInput b (startStep b)
-  start-moves = move startInput (startStep b) (start-seen y b inside (M .refusal) settled-own) (start-step-kept b (M .sized) (M .refusal))
+  start-moves = move startInput (startStep b) (start-seen y b inside (M .refusal) quiescent-own) (start-step-kept b (M .sized) (M .refusal))
       (start-step-spoken b (M .words) (M .refusal))
 
   module _ (x : ℕ) (x-in : x < n) (ne : x ≢ y) (m : Message) (w : Valid n m) where
@@ -93,7 +93,7 @@ module _ (n t : ℕ) (y : ℕ) (y-in : y < n) (own : ℕ) (b : Base) (M : Member
 
     pub arrival-moves : Move n t y own (messageInput x m) b (arrivalStep b (placeOf y x) m)
     arrival-moves = move (messageInput x m) (arrivalStep b (placeOf y x) m)
-        (arrival-seen y b inside (M .refusal) (M .sized) settled-own x (subst (λ k. x < k) (sym (M .n-is)) x-in) ne m (heard .valid))
+        (arrival-seen y b inside (M .refusal) (M .sized) quiescent-own x (subst (λ k. x < k) (sym (M .n-is)) x-in) ne m (heard .valid))
         (arrival-step-kept b (placeOf y x) m (M .sized) heard) (arrival-step-spoken b (placeOf y x) m (M .sized) (M .words) heard)
 
 -- ---- a step of the net

@@ -60,7 +60,7 @@ module _ (n t : ℕ) (faulty : ℕ → ℕ → ℕ) (id : ℕ → ℕ) (truth : 
     where
       go : GroupInvariant n t faulty id truth N → GroupInvariant n t faulty id truth (groupAfter N y (startStep (N .base y)) (N .handed))
       go S =
-          let does = start-moves n t y y-in (id y) (N .base y) (S .member y y-in) (unfold seen in S .invariant .settled y y-in) in
+          let does = start-moves n t y y-in (id y) (N .base y) (S .member y y-in) (unfold seen in S .invariant .quiescent y y-in) in
           let step = move-step n t faulty id N y y-in startInput (startStep (N .base y)) (N .handed) does
           (λ x m l ne good e. impossible (cc)) (λ a c k h. inl h) in
           moved N S y y-in startInput (startStep (N .base y)) (N .handed) does step
@@ -70,7 +70,7 @@ module _ (n t : ℕ) (faulty : ℕ → ℕ → ℕ) (id : ℕ → ℕ) (truth : 
           → GroupInvariant n t faulty id truth (groupAfter N y (arrivalStep (N .base y) (placeOf y x) m) handed)
       go S =
           let does =
-          arrival-moves n t y y-in (id y) (N .base y) (S .member y y-in) (unfold seen in S .invariant .settled y y-in) x x-in ne m w in
+          arrival-moves n t y y-in (id y) (N .base y) (S .member y y-in) (unfold seen in S .invariant .quiescent y y-in) x x-in ne m w in
           moved N S y y-in (messageInput x m) (arrivalStep (N .base y) (placeOf y x) m) handed does
           (move-step n t faulty id N y y-in (messageInput x m) (arrivalStep (N .base y) (placeOf y x) m) handed does from now)
         where
@@ -95,7 +95,7 @@ module _ (n t : ℕ) (faulty : ℕ → ℕ → ℕ) (id : ℕ → ℕ) (truth : 
     where
       go : GroupInvariant n t faulty id truth N → 1 ≤ startStep (N .base y) .base .state
       go S = unfold view in start-moves n t y y-in (id y) (N .base y) (S .member y y-in)
-          (unfold seen in S .invariant .settled y y-in) .call .runs
+          (unfold seen in S .invariant .quiescent y y-in) .call .runs
 
   pub arrival-runs : {N : Group} → ReachedGroup n t faulty id N → (x y : ℕ) (m : Message) → x < n → y < n → x ≢ y → Valid n m
       → 1 ≤ arrivalStep (N .base y) (placeOf y x) m .base .state
@@ -103,7 +103,7 @@ module _ (n t : ℕ) (faulty : ℕ → ℕ → ℕ) (id : ℕ → ℕ) (truth : 
     where
       go : GroupInvariant n t faulty id truth N → 1 ≤ arrivalStep (N .base y) (placeOf y x) m .base .state
       go S = unfold view in arrival-moves n t y y-in (id y) (N .base y) (S .member y y-in)
-          (unfold seen in S .invariant .settled y y-in) x x-in ne m w .call .runs
+          (unfold seen in S .invariant .quiescent y y-in) x x-in ne m w .call .runs
 
   pub inner : {N : Group} → ReachedGroup n t faulty id N → Agrees n faulty truth N
   inner {N} R = agrees (group-invariant R .invariant)

@@ -6,7 +6,7 @@ use mathlib.Core.List.{List, _++_, List·Memᴰ·append-cases, Memᴰ·append-le
 use native.Mathlib.Omega.{arith}
 use Rattle.frame.specs.Message.{Message, announce, verify, correctFinal, verifyFinal}
 use Rattle.protocol.specs.Agreement.Views.{View, Said, ViewHolds}
-use Rattle.protocol.specs.Agreement.Calls.{SoundView, Settled, Backed}
+use Rattle.protocol.specs.Agreement.Calls.{SoundView, Quiescent, Backed}
 use Rattle.protocol.specs.Agreement.Growth.{backed-grows}
 use Rattle.protocol.specs.Agreement.Invariant.{State, Invariant}
 use Rattle.protocol.specs.Agreement.NetSteps.{NetStep, at-each-base, log-grows}
@@ -31,8 +31,8 @@ module _ (n t : ℕ) (faulty : ℕ → ℕ → ℕ) (id : ℕ → ℕ) (truth : 
   pub sound-kept : (x : ℕ) → x < n → SoundView n x (id x) (M .base x)
   sound-kept = each (λ x b log. x < n → SoundView n x (id x) b) (λ l. S .sound) (λ x ne l. I .sound x l)
 
-  pub settled-kept : (x : ℕ) → x < n → Settled n t x (M .base x)
-  settled-kept = each (λ x b log. x < n → Settled n t x b) (λ l. S .call .settled) (λ x ne l. I .settled x l)
+  pub quiescent-kept : (x : ℕ) → x < n → Quiescent n t x (M .base x)
+  quiescent-kept = each (λ x b log. x < n → Quiescent n t x b) (λ l. S .call .quiescent) (λ x ne l. I .quiescent x l)
 
   -- ---- its log
   pub backed-kept : (x : ℕ) (m : Message) → x < n → Said m (M .log x) → Backed n (id x) (M .base x) m

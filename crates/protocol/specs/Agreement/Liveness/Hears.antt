@@ -97,5 +97,5 @@ module _ (n t : ℕ) (faulty : ℕ → ℕ → ℕ) (id : ℕ → ℕ) (truth : 
       ]
 
       running : N .base x .state ≡ 1 → (N .base x .sent ≡ 0) ⊎ (1 ≤ N .base x .sent) → HeardFrom y x
-      running s (inl unsent) = silent s (I .settled x lx .has-voted truth s unsent)
+      running s (inl unsent) = silent s (I .quiescent x lx .has-voted truth s unsent)
       running s (inr sent) = let w = I .vote-said x lx sent in voted (w .0) (w .1) (List-discrete ℕ-discrete (w .0) truth)

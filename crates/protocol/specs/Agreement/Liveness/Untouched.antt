@@ -117,7 +117,7 @@ module _ (n t : ℕ) (faulty : ℕ → ℕ → ℕ) (id : ℕ → ℕ) (truth : 
       }
 
       not-running : ⊥
-      not-running = I .settled p p-in .not-prime runs passes-prime
+      not-running = I .quiescent p p-in .not-prime runs passes-prime
 
     -- ---- two bases a and c have stopped
     module _ (a c : ℕ) (a-in : a < n) (c-in : c < n) (a-not-c : a ≢ c) (a-stopped : 2 ≤ N .base a .state)
@@ -162,7 +162,7 @@ module _ (n t : ℕ) (faulty : ℕ → ℕ → ℕ) (id : ℕ → ℕ) (truth : 
           reached (silent s few) = cut-off s few
 
       not-running-after : ⊥
-      not-running-after = I .settled p p-in .not-secondary truth runs (record {
+      not-running-after = I .quiescent p p-in .not-secondary truth runs (record {
         tally = tally-enough n t faulty id truth P (N .base p) p set missed;
         two = hears-two n t faulty id truth P N I R p a c p-in a-in c-in a-not-c (good a a-in) (good c c-in) runs a-stopped c-stopped;
       })

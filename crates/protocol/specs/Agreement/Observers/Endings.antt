@@ -28,7 +28,7 @@ use Rattle.protocol.specs.Steps.{discards, accepts, withSent, withState,
 use Rattle.protocol.specs.Steps.{primeHolds, secondaryHolds, stops, primeCheck, secondaryCheck, vote}
 use Rattle.protocol.specs.Steps.Laws.{SameSetting}
 use Rattle.protocol.specs.Agreement.Views.{View, Prime, Secondary, Lists}
-use Rattle.protocol.specs.Agreement.Calls.{ViewInput, messageInput, Settled, Full, Taken, before, ViewCall}
+use Rattle.protocol.specs.Agreement.Calls.{ViewInput, messageInput, Quiescent, Full, Taken, before, ViewCall}
 use Rattle.protocol.specs.Agreement.Growth.{grows-not}
 use Rattle.protocol.specs.Agreement.Storing.{Vector, ListOf, Stored}
 use Rattle.protocol.specs.Agreement.Accepting.{Saying, Ending, runs-on, ends-prime, ends-secondary}
@@ -40,12 +40,12 @@ use Rattle.protocol.specs.Agreement.Observers.Names.{named-other}
 use Rattle.protocol.specs.Agreement.Observers.Checks.{secondary-seen, seen-secondary, prime-seen, seen-prime, sorted-lists}
 
 -- ---- a call that changes nothing
-pub unchanged-call : (n t me own : ℕ) (i : ViewInput) (b : View) → Settled n t me b → 1 ≤ b .state
+pub unchanged-call : (n t me own : ℕ) (i : ViewInput) (b : View) → Quiescent n t me b → 1 ≤ b .state
     → ((x : ℕ) (m : Message) → i ≡ messageInput x m → b .state ≤ 1 → Taken n b b x m) → ViewCall n t me own i b b []
-unchanged-call n t me own i b settled on taken = record {
+unchanged-call n t me own i b quiescent on taken = record {
   grows = grows-not b;
   runs = on;
-  settled = settled;
+  quiescent = quiescent;
   heard = λ x m ne h. inl h;
   taken = taken;
   stopping = λ s. before s;
@@ -97,7 +97,7 @@ valid-length n (verify g) v h w = absurd h
 valid-length n (correctFinal u) v h w = ap length (sym h) ∙ w .count
 valid-length n (verifyFinal u) v h w = ap length (sym h) ∙ w .count
 
-module _ (me : ℕ) (b : Base) (inside : me < b .n) (R : Runs b) (S : Sized b) (settled : Settled (b .n) (b .t) me (view me b)) (x : ℕ)
+module _ (me : ℕ) (b : Base) (inside : me < b .n) (R : Runs b) (S : Sized b) (quiescent : Quiescent (b .n) (b .t) me (view me b)) (x : ℕ)
     (x-in : x < b .n) (ne : x ≢ me) where
   abbrev n : ℕ
   n = b .n
@@ -131,7 +131,7 @@ module _ (me : ℕ) (b : Base) (inside : me < b .n) (R : Runs b) (S : Sized b) (
   pub discarded-call : (m : Message) → Taken n see see x m → ArrivalCall me b x m (discards b)
   unfolding discards
   discarded-call m taken =
-      unchanged-call n t me (b .own) (messageInput x m) see settled (omega (arith, see-running)) (λ y w e s. moved y w e)
+      unchanged-call n t me (b .own) (messageInput x m) see quiescent (omega (arith, see-running)) (λ y w e s. moved y w e)
     where
       moved : (y : ℕ) (w : Message) → messageInput x m ≡ messageInput y w → Taken n see see y w
       moved y w e =
@@ -174,7 +174,7 @@ module _ (me : ℕ) (b : Base) (inside : me < b .n) (R : Runs b) (S : Sized b) (
     ends : {state : ℕ} {final : List ℕ} {out : List Message} → Ending n t me m (view me c₀) state final out
         → ViewCall n t me (b .own) (messageInput x m) see (closing (view me c₀) state (c .sent) final) (said ++ out)
     ends {state} {final} {out} E =
-        accepted-call n t me (b .own) x x-in m see (view me c₀) stored see-running settled (c .sent) state final said out T E
+        accepted-call n t me (b .own) x x-in m see (view me c₀) stored see-running quiescent (c .sent) state final said out T E
 
     goes-on : ((Vector m → ⊥) → Prime n t me (view me c₀) → ⊥) → ((v : List ℕ) → ListOf m v → Secondary n t (view me c₀) v → ⊥)
         → view me c .final ≡ view me c₀ .final → ArrivalCall me b x m (accepts c said)

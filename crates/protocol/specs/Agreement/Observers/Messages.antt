@@ -28,7 +28,7 @@ use Rattle.protocol.specs.Steps.Cases.{takesAndVotes, takesVerifyFinal, 
 use Rattle.protocol.specs.Steps.Laws.{takes-rest}
 use Rattle.protocol.specs.Agreement.Cases.{impossible}
 use Rattle.protocol.specs.Agreement.Views.{View, corrects}
-use Rattle.protocol.specs.Agreement.Calls.{Settled, Taken}
+use Rattle.protocol.specs.Agreement.Calls.{Quiescent, Taken}
 use Rattle.protocol.specs.Agreement.Storing.{Stored}
 use Rattle.protocol.specs.Agreement.Accepting.{Saying, says-name, says-vote, says-nothing}
 use Rattle.protocol.specs.Agreement.Observers.{placeOf, view, ArrivalCall}
@@ -48,7 +48,7 @@ above-zero n g w = go (eqb-false g 0 (not-true (eqb g 0) (and-true (not (eqb g 0
     go : (g ≡ 0 → ⊥) → 1 ≤ g
     go h = omega (arith, h)
 
-module _ (me : ℕ) (b : Base) (inside : me < b .n) (R : Runs b) (S : Sized b) (settled : Settled (b .n) (b .t) me (view me b)) (x : ℕ)
+module _ (me : ℕ) (b : Base) (inside : me < b .n) (R : Runs b) (S : Sized b) (quiescent : Quiescent (b .n) (b .t) me (view me b)) (x : ℕ)
     (x-in : x < b .n) (ne : x ≢ me) where
   abbrev n : ℕ
   n = b .n
@@ -73,14 +73,14 @@ module _ (me : ℕ) (b : Base) (inside : me < b .n) (R : Runs b) (S : Sized b) (
   unfolding onAnnounce
   announce-call g w =
       choose-ind (ArrivalCall me b x (announce g)) _
-      (λ e. discarded-call me b inside R S settled x x-in ne (announce g) (discarded e)) accepted
+      (λ e. discarded-call me b inside R S quiescent x x-in ne (announce g) (discarded e)) accepted
     where
       discarded : or (announces link) (or (member g (certified b)) (full n link)) ≡ true → Taken n see see x (announce g)
       discarded e = elim (or-true (announces link) (or (member g (certified b)) (full n link)) e) [
         | inl p ↦ inr (inl (omega (arith, announces-some link p, named-other me b x ne)))
         | inr q ↦ elim (or-true (member g (certified b)) (full n link) q) [
           | inl p ↦ inl (certified-named me b (record { net = R .standing .net; inside = inside }) g p)
-          | inr p ↦ inr (inr (full-seen me b inside R S settled x x-in ne p))
+          | inr p ↦ inr (inr (full-seen me b inside R S quiescent x x-in ne p))
         ]
       ]
 
@@ -90,7 +90,7 @@ module _ (me : ℕ) (b : Base) (inside : me < b .n) (R : Runs b) (S : Sized b) (
           let p = or-false (announces link) (or (member g (certified b)) (full n link)) e in
           let q = or-false (member g (certified b)) (full n link) (p .1) in
           let T : Takes b i (announce g) (withLink b i (withAnnounce link g)) (verify g ∷ []) = takesAnnounce g (p .0) (q .0) (q .1) in
-          prime-call me b inside R S settled x x-in ne (announce g) w (withLink b i (withAnnounce link g))
+          prime-call me b inside R S quiescent x x-in ne (announce g) w (withLink b i (withAnnounce link g))
           (changed-stored me b x ne (announce g) (withAnnounce link g) fits (announce-changes n link g (above-zero n g w) (p .0)))
           (takes-rest T .setting) (takes-runs R S below T w) (verify g ∷ []) (unfold withLink view in says-name g (above-zero n g w) refl)
           (λ v h. h)
@@ -99,12 +99,13 @@ module _ (me : ℕ) (b : Base) (inside : me < b .n) (R : Runs b) (S : Sized b) (
   verify-call : (g : ℕ) → Valid n (verify g) → ArrivalCall me b x (verify g) (onVerify b i g)
   unfolding onVerify
   verify-call g w =
-      choose-ind (ArrivalCall me b x (verify g)) _ (λ e. discarded-call me b inside R S settled x x-in ne (verify g) (discarded e)) accepted
+      choose-ind (ArrivalCall me b x (verify g)) _
+      (λ e. discarded-call me b inside R S quiescent x x-in ne (verify g) (discarded e)) accepted
     where
       discarded : or (holdsVerify link g) (full n link) ≡ true → Taken n see see x (verify g)
       discarded e = elim (or-true (holdsVerify link g) (full n link) e) [
         | inl p ↦ inl (seen-verify me b x ne g ∙ p)
-        | inr p ↦ inr (full-seen me b inside R S settled x x-in ne p)
+        | inr p ↦ inr (full-seen me b inside R S quiescent x x-in ne p)
       ]
 
       room : full n link ≡ false → link .«verify_count» < length (link .verifies)
@@ -121,7 +122,7 @@ module _ (me : ℕ) (b : Base) (inside : me < b .n) (R : Runs b) (S : Sized b) (
       accepted e =
           let p = or-false (holdsVerify link g) (full n link) e in
           let T : Takes b i (verify g) (withLink b i (withVerify link g)) [] = takesVerify g (p .0) (p .1) in
-          prime-call me b inside R S settled x x-in ne (verify g) w (withLink b i (withVerify link g))
+          prime-call me b inside R S quiescent x x-in ne (verify g) w (withLink b i (withVerify link g))
           (changed-stored me b x ne (verify g) (withVerify link g) fits (verify-changes n link g (room (p .1))))
           (takes-rest T .setting) (takes-runs R S below T w) []
           (unfold withLink view in says-nothing (λ k q. impossible (cc)) (λ v q. impossible (cc))) (λ v h. h)
@@ -170,20 +171,20 @@ module _ (me : ℕ) (b : Base) (inside : me < b .n) (R : Runs b) (S : Sized b) (
         → ArrivalCall me b x (correctFinal v) (secondaryCheck (withSent holdingCorrect) v (verifyFinal v ∷ []))
     voting free e =
         let T : Takes b i (correctFinal v) (withSent holdingCorrect) (verifyFinal v ∷ []) = takesAndVotes v free e in
-        secondary-call me b inside R S settled x x-in ne (correctFinal v) w holdingCorrect (withSent holdingCorrect) (correct-stored free)
+        secondary-call me b inside R S quiescent x x-in ne (correctFinal v) w holdingCorrect (withSent holdingCorrect) (correct-stored free)
         (takes-rest T .setting) (takes-runs R S below T w) (sent-closing me holdingCorrect) (verifyFinal v ∷ []) (vote-said e) v refl tt
         (unfold view withSent finalList in refl)
 
     not-voting : link .held ≢ 3 → votes holdingCorrect v ≡ false → ArrivalCall me b x (correctFinal v) (secondaryCheck holdingCorrect v [])
     not-voting free e =
         let T : Takes b i (correctFinal v) holdingCorrect [] = takesCorrect v free e in
-        secondary-call me b inside R S settled x x-in ne (correctFinal v) w holdingCorrect holdingCorrect (correct-stored free)
+        secondary-call me b inside R S quiescent x x-in ne (correctFinal v) w holdingCorrect holdingCorrect (correct-stored free)
         (takes-rest T .setting) (takes-runs R S below T w) (λ s p f. refl) [] (nothing-said e) v refl tt refl
 
     correct-call : ArrivalCall me b x (correctFinal v) (onCorrectFinal b i v)
     unfolding onCorrectFinal vote accepts
     correct-call = choose-ind (ArrivalCall me b x (correctFinal v)) _
-        (λ e. discarded-call me b inside R S settled x x-in ne (correctFinal v) (correct-held e))
+        (λ e. discarded-call me b inside R S quiescent x x-in ne (correctFinal v) (correct-held e))
         (λ e. choose-ind (λ (d : Done). ArrivalCall me b x (correctFinal v) (secondaryCheck (d .base) v (d .says))) (votes holdingCorrect v)
         (voting (eqb-false (link .held) 3 e)) (not-voting (eqb-false (link .held) 3 e)))
 
@@ -192,7 +193,7 @@ module _ (me : ℕ) (b : Base) (inside : me < b .n) (R : Runs b) (S : Sized b) (
   unfolding onVerifyFinal
   vote-call v w =
       choose-ind (ArrivalCall me b x (verifyFinal v)) _
-      (λ e. discarded-call me b inside R S settled x x-in ne (verifyFinal v) (discarded e)) accepted
+      (λ e. discarded-call me b inside R S quiescent x x-in ne (verifyFinal v) (discarded e)) accepted
     where
       discarded : not (eqb (link .held) 0) ≡ true → Taken n see see x (verifyFinal v)
       discarded e = let some = eqb-false (link .held) 0 (not-true (eqb (link .held) 0) e) in
@@ -205,7 +206,7 @@ module _ (me : ℕ) (b : Base) (inside : me < b .n) (R : Runs b) (S : Sized b) (
       accepted e =
           let free : link .held ≡ 0 = eqb-true (link .held) 0 (not-false (eqb (link .held) 0) e) in
           let T : Takes b i (verifyFinal v) (holdingVector b i 4 v) [] = takesVerifyFinal v free in
-          secondary-call me b inside R S settled x x-in ne (verifyFinal v) w (holdingVector b i 4 v) (holdingVector b i 4 v)
+          secondary-call me b inside R S quiescent x x-in ne (verifyFinal v) w (holdingVector b i 4 v) (holdingVector b i 4 v)
           (changed-stored me b x ne (verifyFinal v) (withVector link 4 v) fits
           (vote-changes n link v (valid-length n (verifyFinal v) v refl w) free))
           (takes-rest T .setting) (takes-runs R S below T w) (λ s p f. refl) []

@@ -26,7 +26,7 @@ use Rattle.protocol.specs.Steps.Cases.{begun, afterStart, start-step-cas
 use Rattle.protocol.specs.Steps.Memory.{begun-sized}
 use Rattle.protocol.specs.Agreement.Cases.{impossible}
 use Rattle.protocol.specs.Agreement.Views.{ViewHolds}
-use Rattle.protocol.specs.Agreement.Calls.{startInput, messageInput, SoundView, Settled, ViewCall}
+use Rattle.protocol.specs.Agreement.Calls.{startInput, messageInput, SoundView, Quiescent, ViewCall}
 use Rattle.protocol.specs.Agreement.Accepting.{closing}
 use Rattle.protocol.specs.Agreement.Starting.{BlankView, startedView, begins-call, start-then-call}
 use Rattle.protocol.specs.Agreement.Observers.{placeOf, linkFor, view, ArrivalCall}
@@ -114,19 +114,19 @@ module _ (me : ℕ) (b : Base) (inside : me < b .n) (e : recordRefusal b ≡ 0) 
       go : (s : ℕ) → s ≢ 0 → 1 ≤ s
       go s h = omega (arith, h)
 
-  pub start-seen : Settled (b .n) (b .t) me (view me b)
+  pub start-seen : Quiescent (b .n) (b .t) me (view me b)
       → ViewCall (b .n) (b .t) me (b .own) startInput (view me b) (view me (startStep b .base)) (startStep b .says)
-  start-seen settled = start-step-cases
+  start-seen quiescent = start-step-cases
       (λ (d : Done). ViewCall (b .n) (b .t) me (b .own) startInput (view me b) (view me (d .base)) (d .says)) b
       (λ off. unfold begins accepts in begin-call off)
       (λ off. unfold discards in
-      unchanged-call (b .n) (b .t) me (b .own) startInput (view me b) settled (on off) (λ x m q s. impossible (cc)))
+      unchanged-call (b .n) (b .t) me (b .own) startInput (view me b) quiescent (on off) (λ x m q s. impossible (cc)))
 
-  module _ (S : Sized b) (settled : Settled (b .n) (b .t) me (view me b)) (x : ℕ) (x-in : x < b .n) (ne : x ≢ me) (m : Message)
+  module _ (S : Sized b) (quiescent : Quiescent (b .n) (b .t) me (view me b)) (x : ℕ) (x-in : x < b .n) (ne : x ≢ me) (m : Message)
       (w : Valid (b .n) m) where
     stopped-call : stopped b ≡ true → ArrivalCall me b x m (discards b)
     unfolding discards
-    stopped-call q = unchanged-call (b .n) (b .t) me (b .own) (messageInput x m) (view me b) settled (omega (arith, high))
+    stopped-call q = unchanged-call (b .n) (b .t) me (b .own) (messageInput x m) (view me b) quiescent (omega (arith, high))
         (λ y z r s. absurd (omega (arith, high)))
       where
         high : 2 ≤ view me b .state
@@ -148,11 +148,11 @@ module _ (me : ℕ) (b : Base) (inside : me < b .n) (e : recordRefusal b ≡ 0) 
       where
         second : ViewCall (b .n) (b .t) me (b .own) (messageInput x m) (view me (begun b)) (view me (next .base)) (next .says)
         second = unfold withState in message-call me (begun b) inside (begun-runs b e off) (begun-sized b S)
-            (begin-call off .settled) x x-in ne m w
+            (begin-call off .quiescent) x x-in ne m w
 
     -- a running base takes the message up
     running-call : stopped b ≡ false → idle b ≡ false → ArrivalCall me b x m (onMessage b (placeOf me x) m)
-    running-call p q = message-call me b inside (admitted-runs b e runs) S settled x x-in ne m w
+    running-call p q = message-call me b inside (admitted-runs b e runs) S quiescent x x-in ne m w
       where
         runs : b .state ≡ 1
         runs = omega (arith, leb-false 2 (b .state) (unfold stopped in p), eqb-false (b .state) 0 (unfold idle in q))

@@ -18,7 +18,7 @@ use Rattle.protocol.specs.Steps.{startStep, start, arrivalStep, arrival}
 use Rattle.protocol.specs.Steps.Refusals.{burst-valid}
 use Rattle.protocol.specs.Numbering.{linkTo}
 use Rattle.protocol.specs.Net.{Net, Pair, good, Event, starts, carry, forge, at}
-use Rattle.protocol.specs.Net.{broadcast, call, eventRefusal, callRefusal, refusal, carriedAfter, settled}
+use Rattle.protocol.specs.Net.{broadcast, call, eventRefusal, callRefusal, refusal, carriedAfter, netAfter}
 use Rattle.protocol.specs.Agreement.{Proper}
 use Rattle.protocol.specs.Agreement.Views.{Said}
 use Rattle.protocol.specs.Agreement.Invariant.{Premises, broadcastAt}
@@ -31,13 +31,13 @@ use Rattle.protocol.specs.Agreement.Outer.Faulty.{table, table-good}
 use Rattle.protocol.specs.Agreement.Outer.Frames.{length-encoded, said-at, reads-back}
 use Rattle.protocol.specs.Agreement.Outer.Refusals.{carry-names-broadcast, carry-has-number, forgery-on-faulty-link, encoded-at}
 use Rattle.protocol.specs.Agreement.Outer.Refusals.{start-done, arrival-done, carried-cases}
-use Rattle.protocol.specs.Agreement.Outer.Follows.{Follows, carriedBy, settled-matches, state-left}
+use Rattle.protocol.specs.Agreement.Outer.Follows.{Follows, carriedBy, net-after-matches, state-left}
 
 module _ (n t : ℕ) (faulty : List Pair) (id : ℕ → ℕ) (truth : List ℕ) (NS : NetSize n) (P : Premises n t (table faulty) id truth) where
   -- what an event that is not turned down leads to
   pub record GroupMoved (W : Net) (e : Event) : Type 0 where
-    pub follows : Follows n t faulty id (settled W e)
-    pub runs : 1 ≤ settled W e .base (at e) .state
+    pub follows : Follows n t faulty id (netAfter W e)
+    pub runs : 1 ≤ netAfter W e .base (at e) .state
 
   module _ (W : Net) (F : Follows n t faulty id W) where
     abbrev N : Group
@@ -54,7 +54,7 @@ module _ (n t : ℕ) (faulty : List Pair) (id : ℕ → ℕ) (truth : List ℕ) 
         group = groupAfter N y (startStep (N .base y)) (carriedBy W (starts (suc y) room));
         reached = subst (λ (h : ℕ → ℕ → ℕ → Bool). ReachedGroup n t (table faulty) id (groupAfter N y (startStep (N .base y)) h)) handed
             (groupStarts (F .reached) y y-in);
-        matches = settled-matches n W N (starts (suc y) room) y (startStep (N .base y)) y-in (F .matches) (unfold at in refl) done;
+        matches = net-after-matches n W N (starts (suc y) room) y (startStep (N .base y)) y-in (F .matches) (unfold at in refl) done;
       };
       runs = state-left W (starts (suc y) room) (startStep (N .base y)) done (start-runs n t (table faulty) id truth P (F .reached) y y-in);
     }
@@ -84,7 +84,7 @@ module _ (n t : ℕ) (faulty : List Pair) (id : ℕ → ℕ) (truth : List ℕ) 
           group = groupAfter N y (arrivalStep (N .base y) (placeOf y x) (messageOf burst)) (carriedBy W e);
           reached = groupArrives (F .reached) x y (messageOf burst) (carriedBy W e) x-in y-in ne w source newly;
           matches =
-              settled-matches n W N e y (arrivalStep (N .base y) (placeOf y x) (messageOf burst)) y-in (F .matches) here (is ∙ arrived);
+              net-after-matches n W N e y (arrivalStep (N .base y) (placeOf y x) (messageOf burst)) y-in (F .matches) here (is ∙ arrived);
         };
         runs = state-left W e (arrivalStep (N .base y) (placeOf y x) (messageOf burst)) (is ∙ arrived)
             (arrival-runs n t (table faulty) id truth P (F .reached) x y (messageOf burst) x-in y-in ne w);

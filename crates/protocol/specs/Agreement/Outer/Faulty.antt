@@ -44,11 +44,11 @@ unfolding table
 table-symmetric faulty x y = ap (λ g. bit (not g)) (good-swap faulty (suc x) (suc y))
 
 -- ---- each link named adds two to the degrees
-one-more : (j g : Bool) → bit (not (and (not j) g)) ≤ bit j + bit (not g)
+faulty-by-either : (j g : Bool) → bit (not (and (not j) g)) ≤ bit j + bit (not g)
 unfolding bit and
-one-more true g = omega arith
-one-more false true = omega arith
-one-more false false = omega arith
+faulty-by-either true g = omega arith
+faulty-by-either false true = omega arith
+faulty-by-either false false = omega arith
 
 pub table-total : (n : ℕ) (faulty : List Pair) → total n (table faulty) ≤ 2 * length faulty
 unfolding table good
@@ -56,7 +56,7 @@ table-total n [] = omega (arith, total-mono n (λ x y. bit false) (λ x y. 0) (�
 table-total n (p ∷ faulty) = omega (
   arith,
   total-mono n (table (p ∷ faulty)) (λ x y. named x y + table faulty x y)
-      (λ x y lx ly. one-more (joins p (suc x) (suc y)) (good faulty (suc x) (suc y))),
+      (λ x y lx ly. faulty-by-either (joins p (suc x) (suc y)) (good faulty (suc x) (suc y))),
   total-add n named (table faulty),
   twice,
   table-total n faulty,

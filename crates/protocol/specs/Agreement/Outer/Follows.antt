@@ -8,7 +8,7 @@ use native.Mathlib.Decide.{ℕ-discrete}
 use Rattle.frame.specs.Encoding.{encode}
 use Rattle.protocol.specs.declared.Base.{Base}
 use Rattle.protocol.specs.Steps.{Done}
-use Rattle.protocol.specs.Net.{Net, Pair, Event, at, call, replaced, carriedAfter, settled}
+use Rattle.protocol.specs.Net.{Net, Pair, Event, at, call, replaced, carriedAfter, netAfter}
 use Rattle.protocol.specs.Agreement.Inner.{Group, groupAfter, ReachedGroup}
 use Rattle.protocol.specs.Agreement.Inner.Moves.{replaced-here, replaced-other}
 use Rattle.protocol.specs.Agreement.Outer.Faulty.{table}
@@ -37,10 +37,10 @@ replaced-across h n f g z y a b at-y same e x l = rw at-y (elim (ℕ-discrete x 
   | no q ↦ replaced-other (suc y) a f (suc x) (λ r. q (cc)) ∙ same x l ∙ ap h (sym (replaced-other y b g x q))
 ])
 
-pub settled-matches : (n : ℕ) (W : Net) (N : Group) (e : Event) (y : ℕ) (d : Done) → y < n → Matches n W N → at e ≡ suc y → call W e ≡ d
-    → Matches n (settled W e) (groupAfter N y d (carriedBy W e))
-unfolding settled groupAfter carriedBy
-settled-matches n W N e y d y-in S here done = record {
+pub net-after-matches : (n : ℕ) (W : Net) (N : Group) (e : Event) (y : ℕ) (d : Done) → y < n → Matches n W N → at e ≡ suc y → call W e ≡ d
+    → Matches n (netAfter W e) (groupAfter N y d (carriedBy W e))
+unfolding netAfter groupAfter carriedBy
+net-after-matches n W N e y d y-in S here done = record {
   base = replaced-across (λ (b : Base). b) n (W .base) (N .base) (at e) y _ _ here (S .base) (ap (λ (f : Done). f .base) done);
   log = replaced-across (map encode) n (W .log) (N .log) (at e) y _ _ here (S .log) joined;
   carried = λ x z k. refl;
@@ -50,7 +50,7 @@ settled-matches n W N e y d y-in S here done = record {
     joined = ap₂ (λ a b. a ++ b) (ap (W .log) here ∙ S .log y y-in) (ap (λ (f : Done). map encode (f .says)) done)
         ∙ sym (map-append (N .log y) (d .says))
 
-pub state-left : (W : Net) (e : Event) (d : Done) → call W e ≡ d → 1 ≤ d .base .state → 1 ≤ settled W e .base (at e) .state
-unfolding settled
+pub state-left : (W : Net) (e : Event) (d : Done) → call W e ≡ d → 1 ≤ d .base .state → 1 ≤ netAfter W e .base (at e) .state
+unfolding netAfter
 state-left W e d done h =
     subst (λ (b : Base). 1 ≤ b .state) (sym (replaced-here (at e) (call W e .base) (W .base) ∙ ap (λ (f : Done). f .base) done)) h

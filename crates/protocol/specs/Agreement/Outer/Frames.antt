@@ -67,12 +67,12 @@ module _ (n : ℕ) (N : NetSize n) (m : Message) (w : Valid n m) where
   kind-written = kind-is [] (kindOf m) (idsOf m) few-identifiers
 
 -- ---- "It has stopped once it has broadcast a Correct-Final"
-kind-three : (m : Message) → kindOf m ≡ 3 → (v : List ℕ) × (m ≡ correctFinal v)
+kind-correct-final : (m : Message) → kindOf m ≡ 3 → (v : List ℕ) × (m ≡ correctFinal v)
 unfolding kindOf
-kind-three (announce g) e = absurd (omega arith)
-kind-three (verify g) e = absurd (omega arith)
-kind-three (correctFinal v) e = (v, refl)
-kind-three (verifyFinal v) e = absurd (omega arith)
+kind-correct-final (announce g) e = absurd (omega arith)
+kind-correct-final (verify g) e = absurd (omega arith)
+kind-correct-final (correctFinal v) e = (v, refl)
+kind-correct-final (verifyFinal v) e = absurd (omega arith)
 
 module _ (n : ℕ) (N : NetSize n) where
   pub says-said : (log : List Message) → ((m : Message) → Said m log → Valid n m) → saysCorrect (map encode log) ≡ true
@@ -86,7 +86,7 @@ module _ (n : ℕ) (N : NetSize n) where
           → (saysCorrect (map encode log) ≡ true → (v : List ℕ) × Said (correctFinal v) log)
           → (v : List ℕ) × Said (correctFinal v) (m ∷ log)
       go (inl e) rest =
-          let w = kind-three m (sym (kind-written n N m (valid m (List·Memᴰ·head refl))) ∙ eqb-true (kindByte (encode m)) 3 e) in
+          let w = kind-correct-final m (sym (kind-written n N m (valid m (List·Memᴰ·head refl))) ∙ eqb-true (kindByte (encode m)) 3 e) in
           (w .0, List·Memᴰ·head (sym (w .1)))
       go (inr e) rest = let w = rest e in (w .0, List·Memᴰ·tail (w .1))
 

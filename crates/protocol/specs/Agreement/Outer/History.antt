@@ -10,7 +10,7 @@ use lib.Dec.{eqb}
 use Rattle.limits.specs.Refusals.{NetSize}
 use Rattle.lists.specs.Choice.{and, or}
 use Rattle.lists.specs.Choice.Laws.{choose-ind, and-true, or-true, clash}
-use Rattle.protocol.specs.Net.{Net, Pair, Event, at, refusal, settled, happens, run, started}
+use Rattle.protocol.specs.Net.{Net, Pair, Event, at, refusal, netAfter, happens, run, started}
 use Rattle.protocol.specs.Agreement.{Proper, AllProper}
 use Rattle.protocol.specs.Agreement.Cases.{impossible}
 use Rattle.protocol.specs.Agreement.Invariant.{Premises}
@@ -36,21 +36,21 @@ module _ (n t : ℕ) (faulty : List Pair) (id : ℕ → ℕ) (truth : List ℕ) 
   RunsOrStopped W b = 1 ≤ W .base b .state
 
   -- an event at another base leaves it alone, and one at this base leaves it running or stopped
-  settled-runs : (W : Net) (e : Event) (b : ℕ) → Follows n t faulty id W → Proper n e → refusal faulty W e ≡ 0
-      → RunsOrStopped W b ⊎ (at e ≡ b) → RunsOrStopped (settled W e) b
-  settled-runs W e b F p r h = elim (ℕ-discrete b (at e)) [
-    | yes q ↦ subst (RunsOrStopped (settled W e)) (sym q) (event-moved n t faulty id truth NS P W F e p r .runs)
+  net-after-runs : (W : Net) (e : Event) (b : ℕ) → Follows n t faulty id W → Proper n e → refusal faulty W e ≡ 0
+      → RunsOrStopped W b ⊎ (at e ≡ b) → RunsOrStopped (netAfter W e) b
+  net-after-runs W e b F p r h = elim (ℕ-discrete b (at e)) [
+    | yes q ↦ subst (RunsOrStopped (netAfter W e)) (sym q) (event-moved n t faulty id truth NS P W F e p r .runs)
     | no q ↦ elim h [ inl k ↦ other q k | inr k ↦ absurd (q (sym k)) ]
   ]
     where
-      other : b ≢ at e → RunsOrStopped W b → RunsOrStopped (settled W e) b
-      other q k = unfold settled in rw (replaced-other (at e) _ (W .base) b q) k
+      other : b ≢ at e → RunsOrStopped W b → RunsOrStopped (netAfter W e) b
+      other q k = unfold netAfter in rw (replaced-other (at e) _ (W .base) b q) k
 
   happens-runs : (W : Net) (e : Event) (b : ℕ) → Follows n t faulty id W → Proper n e
       → RunsOrStopped W b ⊎ (and (eqb (at e) b) (eqb (refusal faulty W e) 0) ≡ true) → RunsOrStopped (happens faulty W e) b
   unfolding happens
   happens-runs W e b F p h = choose-ind (λ (M : Net). RunsOrStopped M b) (eqb (refusal faulty W e) 0)
-      (λ r. settled-runs W e b F p (eqb-true (refusal faulty W e) 0 r)
+      (λ r. net-after-runs W e b F p (eqb-true (refusal faulty W e) 0 r)
       (elim h [ inl k ↦ inl k | inr k ↦ inr (eqb-true (at e) b (parts k .0)) ]))
       (λ r. elim h [ inl k ↦ k | inr k ↦ clash (parts k .1) r ])
     where

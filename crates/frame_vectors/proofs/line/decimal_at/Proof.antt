@@ -2,8 +2,8 @@
 use Prim.Native.Nat.{_-_, _^_, _<_}
 use borrow.Author.Needs.{needs}
 use lib.ListN.{length}
-use Rattle.frame_vectors.proofs.line.number.Statement.{statement}
-use Rattle.frame_vectors.proofs.line.number.Tie as tie
+use Rattle.frame_vectors.proofs.line.decimal_at.Statement.{statement}
+use Rattle.frame_vectors.proofs.line.decimal_at.Tie as tie
 
 abbrev Inv-loop : tie.InvT-loop
 Inv-loop text at value₀ i₀ value i = value < 2 ^ 64
@@ -41,8 +41,8 @@ loop-again c = search needs
 returns-2 : tie.Need-returns-2 Inv-loop μ-loop
 returns-2 c = search needs
 
-pub number-spec : {M : Type 1} → statement M
-number-spec =
+pub decimal-at-spec : {M : Type 1} → statement M
+decimal-at-spec =
     tie.close
     (tie.spec
     Inv-loop

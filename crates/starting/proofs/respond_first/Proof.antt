@@ -1,7 +1,7 @@
--- `starting::told_first` meets its contract: the message's frames go into the rest of the output, behind those of the start.
+-- `starting::respond_first` meets its contract: the message's frames go into the rest of the output, behind those of the start.
 use Rattle.starting.specs.Starting.{startFrames, startLength, firstFrames}
 use Rattle.starting.specs.Starting.Laws.{start-long, start-fits, start-short, first-change}
-use Rattle.settling.specs.Settling.{toldFrames}
+use Rattle.settling.specs.Settling.{responseFrames}
 use Rattle.broadcasting.specs.Broadcasting.Laws.{rest-length}
 use Rattle.two_frames.specs.declared.TwoLengths.{TwoLengths}
 use Rattle.frame.specs.Encoding.Laws.{over-rest}
@@ -11,8 +11,8 @@ use native.Mathlib.Omega.{arith}
 use mathlib.Core.Path.{_≡_, refl, ap, _∙_}
 use Prim.Native.Nat.{ℕ, _+_, _-_}
 use borrow.Author.Needs.{needs}
-use Rattle.starting.proofs.told_first.Statement.{statement}
-use Rattle.starting.proofs.told_first.Tie as tie
+use Rattle.starting.proofs.respond_first.Statement.{statement}
+use Rattle.starting.proofs.respond_first.Tie as tie
 
 -- the length of each frame of the start
 front : (c : tie.After-begin) → c .begin .result .front ≡ startLength (length (c .before .before .before .args .out .now))
@@ -28,19 +28,19 @@ add-start : tie.Need-add-start
 add-start c = let w = c .before .before .before in
     omega (arith, front w, next w, start-short (length (w .before .before .before .args .out .now)))
 
-sub-told : tie.Need-sub-told
-sub-told c = let w = c .before .before .before in
+sub-respond : tie.Need-sub-respond
+sub-respond c = let w = c .before .before .before in
     omega (arith, front w, next w, start-fits (length (w .before .before .before .args .out .now)), w .begin .kept)
 
-part-told-start : tie.Need-part-told-start
-part-told-start c = let w = c .before .before .before in
+part-respond-start : tie.Need-part-respond-start
+part-respond-start c = let w = c .before .before .before in
     omega (arith, front w, next w, start-fits (length (w .before .before .before .args .out .now)), w .begin .kept)
 
-part-told-end : tie.Need-part-told-end
-part-told-end c = search needs
+part-respond-end : tie.Need-part-respond-end
+part-respond-end c = search needs
 
-told-requires : tie.Need-told-requires
-told-requires c κs = search needs
+respond-requires : tie.Need-respond-requires
+respond-requires c κs = search needs
 
 behind-start-requires : tie.Need-behind-start-requires
 behind-start-requires c κs = search needs
@@ -52,7 +52,7 @@ returns : tie.Need-returns
 unfolding firstFrames
 returns c =
     let rest = c .before .before .before .before .before in let began = rest .before .before .before .before .before in
-    let w = began .begin in let t = rest .told in let s = began .before .before .before in let a = s .args in
+    let w = began .begin in let t = rest .respond in let s = began .before .before .before in let a = s .args in
     let room = length (a .out .now) in let o = w .last .1 .1 .0 in let k = w .result .front + w .result .next in
     let size : k ≡ length (startFrames (a .own) room) = omega (arith, front began, next began, start-long (a .own) room) in
     let part : length (take (length o - k) (drop k o)) ≡ room - length (startFrames (a .own) room) =
@@ -60,20 +60,20 @@ returns c =
       first-change (a .n) (a .own) (a .i) (a .accepted) (a .decision) (a .ids) room _ _ _ _ _
           (front began) (next began) part (t .ensures .0) (c .behind-start .ensures),
       over-rest _ _ _ _ _ _ _ size refl (w .ensures .1)
-          (t .ensures .1 ∙ ap (λ (m : ℕ). over (toldFrames (a .n) (a .accepted .accepted) (a .decision) (a .ids) m)
+          (t .ensures .1 ∙ ap (λ (m : ℕ). over (responseFrames (a .n) (a .accepted .accepted) (a .decision) (a .ids) m)
           (take (length o - k) (drop k o))) part),
     )
 
-pub told-first-spec : {M : Type 1} → statement M
-told-first-spec =
+pub respond-first-spec : {M : Type 1} → statement M
+respond-first-spec =
     tie.close
     (tie.spec
     begin-requires
     add-start
-    sub-told
-    part-told-start
-    part-told-end
-    told-requires
+    sub-respond
+    part-respond-start
+    part-respond-end
+    respond-requires
     behind-start-requires
     same-length
     returns)

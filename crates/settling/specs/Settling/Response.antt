@@ -1,4 +1,4 @@
--- What is told of a message at a running base is what the message does there.
+-- The response to a message at a running base is what the message does there.
 use Prim.Native.Nat.{ℕ, _≤_}
 use mathlib.Core.Path.{_≡_, refl, sym, ap, _∙_, subst}
 use mathlib.Core.Bool.{Bool, true, false}
@@ -24,7 +24,7 @@ use Rattle.change.specs.Heard.{MessageIn, messageIn}
 use Rattle.accepting.specs.declared.Accepted.{Accepted}
 use Rattle.deciding.specs.declared.Decision.{Decision}
 use Rattle.deciding.specs.Deciding.{runsOn, decisionOf}
-use Rattle.settling.specs.Settling.{Place, acceptedAt, decidedAt, toldFrames, toldOutcome, toldChange, decidedBase}
+use Rattle.settling.specs.Settling.{Place, acceptedAt, decidedAt, responseFrames, responseOutcome, responseChange, decidedBase}
 use Rattle.settling.specs.Settling.Laws.{DecidedAs, discarded-by-link, accepted-by-link, link-kept}
 use Rattle.settling.specs.Settling.Frames.{said-does, said-room}
 
@@ -32,8 +32,8 @@ module _ (b : Base) (i kind : ℕ) (ids output : List ℕ)
     (P : Place b i) (M : MessageIn (b .n) kind ids) (z : length ids ≡ mostBases) (a : Accepted) (D : Decision)
     (e : a ≡ acceptedAt b i kind ids) (f : D ≡ decidedAt b i a kind ids)
     (h : length (encodeAll (onMessage (begun b) i (messageIn (b .n) kind ids) .says)) ≤ length output)
-    (r : Change) (after : List ℕ) (p : r ≡ toldChange (b .n) i a D ids (length output))
-    (q : after ≡ over (toldFrames (b .n) (a .accepted) D ids (length output)) output) where
+    (r : Change) (after : List ℕ) (p : r ≡ responseChange (b .n) i a D ids (length output))
+    (q : after ≡ over (responseFrames (b .n) (a .accepted) D ids (length output)) output) where
   linksAt : List Link → Base
   linksAt ls =
       record { n = b .n; t = b .t; state = 1; sent = b .sent; own = b .own; «final_list» = b .«final_list»; links = ls }
@@ -42,7 +42,8 @@ module _ (b : Base) (i kind : ℕ) (ids output : List ℕ)
   m = onMessage (begun b) i (messageIn (b .n) kind ids)
 
   yes : a .accepted ≡ true → Does b m r output after
-  unfolding m acceptedAt decidedAt toldFrames toldOutcome toldChange withLink withState linkAt linkCount certified changedBase decidedBase
+  unfolding m acceptedAt decidedAt responseFrames responseOutcome responseChange withLink withState linkAt linkCount
+      certified changedBase decidedBase
   yes t =
       let x = withLink (begun b) i (a .link) in
       let g : D ≡ decisionOf x kind ids = f ∙ choose-yes _ _ t in
@@ -55,20 +56,20 @@ module _ (b : Base) (i kind : ℕ) (ids output : List ℕ)
 
   -- the record once the base runs, as it was but for that
   kept : a .accepted ≡ false → changedBase b r ≡ begun b
-  unfolding linksAt acceptedAt decidedAt toldChange withLink withState linkAt linkCount certified changedBase runsOn
+  unfolding linksAt acceptedAt decidedAt responseChange withLink withState linkAt linkCount certified changedBase runsOn
   kept t =
       let g : D ≡ runsOn (begun b) 0 (b .sent) = f ∙ choose-no _ _ t in
       ap (changedBase b) p
-      ∙ ap (λ (d : Decision). changedBase b (toldChange (b .n) i a d ids (length output))) g
+      ∙ ap (λ (d : Decision). changedBase b (responseChange (b .n) i a d ids (length output))) g
       ∙ ap (λ (l : Link). withLink (begun b) i l) (link-kept (begun b) i kind ids z (P .net .most) M a e t)
       ∙ ap linksAt (set-getD (b .links) i noLink)
 
   quiet : a .accepted ≡ false → r .outcome ≡ outcomeOf discarded []
-  unfolding toldOutcome toldChange outcomeOf lengths
+  unfolding responseOutcome responseChange outcomeOf lengths
   quiet t = ap (λ (c : Change). c .outcome) p ∙ choose-no _ _ t
 
   no : a .accepted ≡ false → Does b m r output after
-  unfolding m acceptedAt toldFrames withState linkAt linkCount certified discards outputOf encodeAll
+  unfolding m acceptedAt responseFrames withState linkAt linkCount certified discards outputOf encodeAll
   no t =
       does-as (discarded-by-link (begun b) i kind ids z (P .net .most) M a e t)
       (record {
@@ -76,9 +77,9 @@ module _ (b : Base) (i kind : ℕ) (ids output : List ℕ)
         written = q ∙ ap (λ (s : List ℕ). over s output) (choose-no _ _ t);
       })
 
-  pub told-does : Does b (onMessage (begun b) i (messageIn (b .n) kind ids)) r output after
+  pub response-does : Does b (onMessage (begun b) i (messageIn (b .n) kind ids)) r output after
   unfolding m
-  told-does = go (a .accepted) refl
+  response-does = go (a .accepted) refl
     where
       go : (t : Bool) → a .accepted ≡ t → Does b m r output after
       go true t = yes t

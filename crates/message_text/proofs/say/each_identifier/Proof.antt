@@ -2,8 +2,8 @@
 use Prim.Native.Nat.{_≤_, _-_}
 use borrow.Author.Needs.{needs}
 use Rattle.limits.specs.Limits.{mostBases}
-use Rattle.message_text.proofs.say.identifiers.Statement.{statement}
-use Rattle.message_text.proofs.say.identifiers.Tie as tie
+use Rattle.message_text.proofs.say.each_identifier.Statement.{statement}
+use Rattle.message_text.proofs.say.each_identifier.Tie as tie
 
 abbrev Inv-loop : tie.InvT-loop
 Inv-loop count ids i₀ i = i ≤ mostBases
@@ -38,8 +38,8 @@ loop-again c = search needs
 returns-2 : tie.Need-returns-2 Inv-loop μ-loop
 returns-2 c = search needs
 
-pub identifiers-spec : {M : Type 1} → statement M
-identifiers-spec =
+pub each-identifier-spec : {M : Type 1} → statement M
+each-identifier-spec =
     tie.close
     (tie.spec
     Inv-loop

@@ -1,8 +1,8 @@
--- `node_calls::settle` meets its contract: the lengths are those that the outcome tells.
-use Rattle.node_calls.specs.Calls.Laws.{numbers-fit, numbers-settled}
+-- `node_calls::answered` meets its contract: the lengths are those that the outcome tells.
+use Rattle.node_calls.specs.Calls.Laws.{numbers-fit, numbers-answer}
 use borrow.Author.Needs.{needs}
-use Rattle.node_calls.proofs.settle.Statement.{statement}
-use Rattle.node_calls.proofs.settle.Tie as tie
+use Rattle.node_calls.proofs.answered.Statement.{statement}
+use Rattle.node_calls.proofs.answered.Tie as tie
 
 changed-requires : tie.Need-changed-requires
 changed-requires c κs = search needs
@@ -14,8 +14,8 @@ keep-three-requires : tie.Need-keep-three-requires
 keep-three-requires c κs = numbers-fit _ (c .outcome-numbers .ensures) (c .before .before .before .pre)
 
 returns : tie.Need-returns
-returns c = numbers-settled _ (c .before .outcome-numbers .ensures) _ _ (c .before .before .changed .ensures) (c .keep-three .ensures)
+returns c = numbers-answer _ (c .before .outcome-numbers .ensures) _ _ (c .before .before .changed .ensures) (c .keep-three .ensures)
 
-pub settle-spec : {M : Type 1} → statement M
-settle-spec =
+pub answered-spec : {M : Type 1} → statement M
+answered-spec =
     tie.close (tie.spec changed-requires outcome-numbers-requires keep-three-requires returns)

@@ -1,11 +1,11 @@
--- `settling::told` meets its contract.
-use Rattle.settling.specs.Settling.{toldChange}
+-- `settling::respond` meets its contract.
+use Rattle.settling.specs.Settling.{responseChange}
 use Rattle.change.specs.declared.Change.{Change}
 use Rattle.protocol.specs.declared.Outcome.{Outcome}
 use mathlib.Core.Path.{ap}
 use borrow.Author.Needs.{needs}
-use Rattle.settling.proofs.told.Statement.{statement}
-use Rattle.settling.proofs.told.Tie as tie
+use Rattle.settling.proofs.respond.Statement.{statement}
+use Rattle.settling.proofs.respond.Tie as tie
 
 said-requires : tie.Need-said-requires
 said-requires c κs = search needs
@@ -14,7 +14,7 @@ same-length : tie.Need-same-length
 same-length c = search needs
 
 returns : tie.Need-returns
-unfolding toldChange
+unfolding responseChange
 returns c = let w = c .before .before .said .ensures in let a = c .before .before .before .before .before .before .before .args in (
   ap (λ (o : Outcome). record {
     outcome = o;
@@ -27,5 +27,5 @@ returns c = let w = c .before .before .said .ensures in let a = c .before .befor
   w .1,
 )
 
-pub told-spec : {M : Type 1} → statement M
-told-spec = tie.close (tie.spec said-requires same-length returns)
+pub respond-spec : {M : Type 1} → statement M
+respond-spec = tie.close (tie.spec said-requires same-length returns)

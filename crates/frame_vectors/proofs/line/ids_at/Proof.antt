@@ -4,8 +4,8 @@ use mathlib.Core.Path.{_≡_}
 use borrow.Author.Needs.{needs}
 use lib.ListN.{length}
 use Rattle.limits.specs.Limits.{listRoom}
-use Rattle.frame_vectors.proofs.line.identifiers.Statement.{statement}
-use Rattle.frame_vectors.proofs.line.identifiers.Tie as tie
+use Rattle.frame_vectors.proofs.line.ids_at.Statement.{statement}
+use Rattle.frame_vectors.proofs.line.ids_at.Tie as tie
 
 abbrev Inv-loop : tie.InvT-loop
 Inv-loop text at list₀ place₀ len₀ list place len = (len ≤ 2 * listRoom) × (length list ≡ 2 * listRoom)
@@ -19,8 +19,8 @@ loop-holds c = search needs
 returns : tie.Need-returns Inv-loop μ-loop
 returns c = search needs
 
-number-requires : tie.Need-number-requires Inv-loop μ-loop
-number-requires c κs = search needs
+decimal-at-requires : tie.Need-decimal-at-requires Inv-loop μ-loop
+decimal-at-requires c κs = search needs
 
 cast-list : tie.Need-cast-list Inv-loop μ-loop
 cast-list c = search needs
@@ -43,15 +43,15 @@ loop-again c = search needs
 returns-2 : tie.Need-returns-2 Inv-loop μ-loop
 returns-2 c = search needs
 
-pub identifiers-spec : {M : Type 1} → statement M
-identifiers-spec =
+pub ids-at-spec : {M : Type 1} → statement M
+ids-at-spec =
     tie.close
     (tie.spec
     Inv-loop
     μ-loop
     loop-holds
     returns
-    number-requires
+    decimal-at-requires
     cast-list
     mul-list
     array-write-list
