@@ -4,20 +4,18 @@ use c_answers::LeaderAnswer;
 use c_answers::ReadAnswer;
 use c_answers::WriteAnswer;
 use c_answers::leader_numbers;
-use c_answers::outcome_numbers;
 use c_answers::read_numbers;
 use c_answers::written_numbers;
-use change::Change;
-use change::changed;
 use idle::Made;
 use protocol::Base;
+use storing::stored;
 ghost use mathlib.Core.Path.{_≡_};
 ghost use lib.ListN.{length};
 ghost use Rattle.writer.specs.Writing.{writtenOf, writeOutput};
 ghost use Rattle.decoding.specs.Decoding.{idArray};
 ghost use Rattle.reader.specs.Answers.{readingOf, stretch};
 ghost use Rattle.protocol.specs.Steps.{arrival, start, leaderAnswer};
-ghost use Rattle.change.specs.Change.{changedBase, DoesAs};
+ghost use Rattle.change.specs.Change.{DoesAs};
 ghost use Rattle.idle.specs.Made.{madeOf};
 ghost use Rattle.roster_c.specs.Version.{version};
 ghost use Rattle.c_answers.specs.Numbers.{outcomeNumbers, leaderNumbers, writtenNumbers, readNumbers};
@@ -31,14 +29,6 @@ pub extern "C" fn roster_idle(n: usize, t: usize, own: u32) -> Made
     ensures { λ r. ⌜ r ≡ madeOf n t own ⌝ }
 {
     idle::make_idle(n, t, own)
-}
-
-// The change that a call of the engine answers with is made where the record lies; its answer in numbers.
-fn stored(base: &mut Base, change: Change) -> CallAnswer
-    ensures { λ r. ⌜ (r ≡ outcomeNumbers (change .outcome)) × (now (base .exit) ≡ changedBase (now (base .entry)) change) ⌝ }
-{
-    *base = changed(*base, change);
-    outcome_numbers(change.outcome)
 }
 
 // Starts an idle base. Turned down by 1 to 4 and 6.

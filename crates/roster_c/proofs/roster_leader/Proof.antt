@@ -31,7 +31,8 @@ use Rattle.c_answers.proofs.leader_numbers.Met as numbers-thm
 use Rattle.walks.proofs.Locals.{enters, held, sets, puts, free-all}
 use Rattle.walks.proofs.Plain.{typed, takes, gets, lent, opened, closed, gives-up}
 use Rattle.walks.proofs.Calls.{triple, calls-by, ends-by, meets-by, proved}
-use Rattle.roster_c.proofs.Types.{base-type, leader-type, leader-answer-type}
+use Rattle.storing.proofs.Types.{base-type}
+use Rattle.roster_c.proofs.Types.{leader-type, leader-answer-type}
 use Rattle.roster_c.proofs.roster_leader.Key.{name as #roster-leader}
 use Rattle.roster_c.proofs.roster_leader as f
 use Rattle.roster_c.proofs.roster_leader.Statement as stated

@@ -1,4 +1,4 @@
--- `roster_c::stored` meets its contract: a walk of its MIR, by hand. The record is loaded, the change is made on it, and what that gives is
+-- `storing::stored` meets its contract: a walk of its MIR, by hand. The record is loaded, the change is made on it, and what that gives is
 -- stored where the record lies.
 use mathlib.Core.Path.{_≡_, refl}
 use mathlib.Core.List.{[], _∷_}
@@ -34,11 +34,11 @@ use Rattle.c_answers.proofs.outcome_numbers.Met as numbers-thm
 use Rattle.walks.proofs.Locals.{enters, held, field-of, sets, puts, free-all}
 use Rattle.walks.proofs.Plain.{typed, takes, gets, lent, opened, closed, gives-up}
 use Rattle.walks.proofs.Calls.{triple, calls-by, ends-by, meets-by, proved}
-use Rattle.roster_c.proofs.Types.{base-type, change-type, outcome-type, call-answer-type, outcome-of}
-use Rattle.roster_c.proofs.stored.Key.{name as #stored}
-use Rattle.roster_c.proofs.stored as f
-use Rattle.roster_c.proofs.stored.Statement as stated
-use Rattle.roster_c.proofs.stored.Code as code
+use Rattle.storing.proofs.Types.{base-type, change-type, outcome-type, call-answer-type, outcome-of}
+use Rattle.storing.proofs.stored.Key.{name as #stored}
+use Rattle.storing.proofs.stored as f
+use Rattle.storing.proofs.stored.Statement as stated
+use Rattle.storing.proofs.stored.Code as code
 
 module _ {M : Type 1} (𝓤 : URA M) (H : Heap 𝓤) (A : Atoms 𝓤) (W : Given 𝓤 H A) (at : Memory → SProp 𝓤) (run : Routine → Fun 𝓤)
     (C : Calls 𝓤 H) (Λ : Loops 𝓤 H) (fm : FmC 𝓤 H (W .laws) C)
