@@ -11,9 +11,10 @@ use Rattle.protocol.specs.Steps.{Done, arrival}
 use Rattle.protocol.specs.Net.{Event, starts, carry, forge, at, call, callRefusal, eventRefusal, refusal}
 use Rattle.protocol.specs.Net as Nets
 use Rattle.node.specs.declared.Node.{Node}
-use Rattle.node.specs.Node.{logOf, heardBy, marked}
+use Rattle.node.specs.Node.{logOf, marked}
 use Rattle.node.specs.Node as Nodes
 use Rattle.net.specs.declared.StoredNet.{StoredNet}
+use Rattle.carry_refusals.specs.Carry.{seenNet, carryRefusal}
 use Rattle.events.specs.declared.Reached.{Reached}
 use Rattle.net.specs.Abstraction.{nodeAt, withNode, netOf, faultyOf}
 pub mod Laws
@@ -39,14 +40,6 @@ unfoldable pub moved : StoredNet → Event → Moved
 moved w e = record { refusal = eventRefusal (faultyOf w) (netOf w) e; net = after w e }
 
 -- ---- parts
--- what an event's numbers look at: what the sender has broadcast, and what the receiver has heard
-abbrev pub seenNet : Node → Node → Nets.Net
-seenNet v u = record { base = λ x. u .base; log = λ x. logOf v; carried = λ x y j. heardBy u x j }
-
--- numbers 16 and 17, of the sender and the receiver
-unfoldable pub carryRefusal : Node → Node → List Nets.Pair → ℕ → ℕ → ℕ → ℕ
-carryRefusal v u faulty a b k = eventRefusal faulty (seenNet v u) (carry a b k outputRoom)
-
 -- a carry, of the sender and the receiver: the receiver as it leaves it
 unfoldable pub carryCall : Node → Node → ℕ → ℕ → ℕ → Done
 carryCall v u a b k = arrival (u .base) (linkTo b a) (getD (logOf v) (k - 1) []) outputRoom

@@ -1,41 +1,22 @@
 // A carry and a forgery, each on the nodes that it names. What is turned down, by 16 to 18 or by the base's call, leaves the base
 // that it would reach as it was. A start is the call alone (crate `node_calls`). Crate `representation` has what these do to the net.
+use carry_refusals::carry_refusal;
 use faulty_links::Faulty;
 use faulty_links::is_good;
 use limits::refusal;
-use marks::heard;
 use node::Node;
-use node::log::broadcasts;
 use node::log::frame_at;
 use node_arrivals::hear_burst;
 use node_arrivals::hear_frame;
 use numbering::link_to;
 ghost use mathlib.Core.Path.{_≡_};
 ghost use Rattle.faulty_links.specs.Faulty.{pairsOf};
-ghost use Rattle.events.specs.Events.{carryRefusal, carriedTo, forgedTo};
+ghost use Rattle.events.specs.Events.{carriedTo, forgedTo};
 
 // The base that an event reaches, as the event left it, beside 16, 17 or 18 where that turned the event down, else 0.
 pub struct Reached {
     pub refusal: u8,
     pub node: Node,
-}
-
-// Numbers 16 and 17, 0 for none.
-fn carry_refusal(sender: Node, receiver: Node, faulty: Faulty, a: u8, b: u8, k: usize) -> u8
-    ensures { λ r. ⌜ r ≡ carryRefusal sender receiver (pairsOf faulty) a b k ⌝ }
-{
-    if k == 0 {
-        return refusal::NOT_BROADCAST;
-    }
-    if broadcasts(sender) < k {
-        return refusal::NOT_BROADCAST;
-    }
-    if is_good(faulty, a, b) {
-        if heard(receiver, a, k) {
-            return refusal::CARRIED_BEFORE;
-        }
-    }
-    0
 }
 
 // a's k-th broadcast arrives at b.

@@ -38,8 +38,9 @@ use Rattle.node.specs.Node.Log.{frame-written}
 use Rattle.node.specs.Node.Within.{below-one}
 use Rattle.net.specs.declared.StoredNet.{StoredNet}
 use Rattle.net.specs.Abstraction.{noNode, emptyNode, nodeAt, withNode, withNodes, netOf, faultyOf}
+use Rattle.carry_refusals.specs.Carry.{carryRefusal}
 use Rattle.events.specs.declared.Reached.{Reached}
-use Rattle.events.specs.Events.{marks, after, carryRefusal, carryCall, carriedTo, forgedTo}
+use Rattle.events.specs.Events.{marks, after, carryCall, carriedTo, forgedTo}
 
 -- ---- a call that is turned down
 module _ (u : Node) where
@@ -70,32 +71,6 @@ unmarked u link bytes a =
     let d = arrival (u .base) link bytes outputRoom in
     ap (λ (x : Node). choose (eqb (callRefusal (d .answer)) 0) x u) (unnumbered (Nodes.nodeAfter u d) a)
     ∙ sym (unless-down (arrival-down u link bytes))
-
--- ---- a carry: numbers 16 and 17
-module _ (v u : Node) (faulty : List Nets.Pair) (a b k : ℕ) where
-  pub not-numbered : k ≡ 0 → 16 ≡ carryRefusal v u faulty a b k
-  unfolding carryRefusal eventRefusal
-  not-numbered e = chosen-yes _ (or-first _ (eq-eqb k 0 e)) refl
-
-  pub not-broadcast : {n : ℕ} → n ≡ length (logOf v) → n < k → 16 ≡ carryRefusal v u faulty a b k
-  unfolding carryRefusal eventRefusal
-  not-broadcast e h = chosen-yes _ (or-second (eqb k 0) (ap (λ (x : ℕ). ltb x k) (sym e) ∙ lt-ltb _ k h)) refl
-
-  module _ (some : k ≢ 0) {n : ℕ} (e : n ≡ length (logOf v)) (h : k ≤ n) where
-    there : or (eqb k 0) (ltb (length (logOf v)) k) ≡ false
-    there = or-neither (ne-eqb k 0 some) (ap (λ (x : ℕ). ltb x k) (sym e) ∙ le-ltb _ k h)
-
-    pub repeated : {g d : Bool} → g ≡ good faulty a b → g ≡ true → d ≡ heardBy u a k → d ≡ true → 17 ≡ carryRefusal v u faulty a b k
-    unfolding carryRefusal eventRefusal
-    repeated eg g ed d = chosen-no _ there (chosen-yes _ (and-both (sym eg ∙ g) (sym ed ∙ d)) refl)
-
-    pub first-time : {d : Bool} → d ≡ heardBy u a k → d ≡ false → 0 ≡ carryRefusal v u faulty a b k
-    unfolding carryRefusal eventRefusal
-    first-time ed d = chosen-no _ there (chosen-no _ (ap (and (good faulty a b)) (sym ed ∙ d) ∙ and-no _) refl)
-
-    pub on-a-faulty-link : {g : Bool} → g ≡ good faulty a b → g ≡ false → 0 ≡ carryRefusal v u faulty a b k
-    unfolding carryRefusal eventRefusal
-    on-a-faulty-link eg g = chosen-no _ there (chosen-no _ (sym (and-fails _ (sym eg ∙ g))) refl)
 
 -- ---- a carry
 module _ (v u : Node) (faulty : List Nets.Pair) (a b k : ℕ) {n : ℕ} (en : n ≡ carryRefusal v u faulty a b k) where

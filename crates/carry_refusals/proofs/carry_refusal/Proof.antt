@@ -1,8 +1,8 @@
--- `events::carry_refusal` meets its contract: 16, then 17.
-use Rattle.events.specs.Events.Laws.{not-numbered, not-broadcast, repeated, first-time, on-a-faulty-link}
+-- `carry_refusals::carry_refusal` meets its contract: 16, then 17.
+use Rattle.carry_refusals.specs.Carry.Laws.{not-numbered, not-broadcast, repeated, first-time, on-a-faulty-link}
 use borrow.Author.Needs.{needs}
-use Rattle.events.proofs.carry_refusal.Statement.{statement}
-use Rattle.events.proofs.carry_refusal.Tie as tie
+use Rattle.carry_refusals.proofs.carry_refusal.Statement.{statement}
+use Rattle.carry_refusals.proofs.carry_refusal.Tie as tie
 
 returns : tie.Need-returns
 returns c = not-numbered _ _ _ _ _ _ (c .if1 .taken)
