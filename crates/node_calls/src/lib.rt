@@ -1,11 +1,9 @@
 // Calls on the record of a base of the program's net: a start, and the arrival of a message that was read. The frames that a call writes
 // join the base's broadcasts.
-mod keep;
-
-use crate::keep::keep_three;
 use c_answers::outcome_numbers;
 use change::Change;
 use change::changed;
+use keeping::keep_three;
 use limits::MOST_BASES;
 use limits::OUTPUT_ROOM;
 use node::Node;

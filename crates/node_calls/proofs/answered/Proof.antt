@@ -1,5 +1,5 @@
 -- `node_calls::answered` meets its contract: the lengths are those that the outcome tells.
-use Rattle.node_calls.specs.Calls.Laws.{numbers-fit, numbers-answer}
+use Rattle.node_calls.specs.Calls.Laws.{numbers-answer}
 use borrow.Author.Needs.{needs}
 use Rattle.node_calls.proofs.answered.Statement.{statement}
 use Rattle.node_calls.proofs.answered.Tie as tie
@@ -11,10 +11,11 @@ outcome-numbers-requires : tie.Need-outcome-numbers-requires
 outcome-numbers-requires c κs = search needs
 
 keep-three-requires : tie.Need-keep-three-requires
-keep-three-requires c κs = numbers-fit _ (c .outcome-numbers .ensures) (c .before .before .before .pre)
+keep-three-requires c κs = search needs
 
 returns : tie.Need-returns
-returns c = numbers-answer _ (c .before .outcome-numbers .ensures) _ _ (c .before .before .changed .ensures) (c .keep-three .ensures)
+returns c = numbers-answer _ (c .before .outcome-numbers .ensures) _ _ (c .before .before .before .before .pre)
+    (c .before .before .changed .ensures) (c .keep-three .ensures)
 
 pub answered-spec : {M : Type 1} → statement M
 answered-spec =

@@ -1,5 +1,4 @@
--- A frame is copied out of the output byte by byte, and joins the broadcasts if there is one and there is room. The three frames of
--- a call, taken from the output by their lengths, are those that the call broadcast.
+-- The three frames of a call, taken from the output by their lengths, are those that the call broadcast.
 use Prim.Native.Nat.{ℕ, zero, suc, _+_, _≤_, _<_}
 use mathlib.Core.Path.{_≡_, refl, sym, ap, _∙_, subst}
 use mathlib.Core.List.{List, [], _∷_, _++_, map, append-assoc}
@@ -29,36 +28,10 @@ use Rattle.node.specs.declared.Node.{Node}
 use Rattle.node_calls.specs.declared.NodeAnswer.{NodeAnswer}
 use Rattle.node.specs.Node.{mostBroadcasts, storedFrame, joined, joinedAll, withBase, nodeAfter}
 use Rattle.protocol.specs.Steps.Sizes.{length-encode}
-use Rattle.node_calls.specs.Calls.{nodeAnswer, keptOf, keptFrom, AllFit, Fitting, writtenAnswer}
+use Rattle.node_calls.specs.Calls.{nodeAnswer, Fitting, writtenAnswer}
+use Rattle.keeping.specs.Keeping.{keptOf, keptFrom, AllFit, keptThree}
+use Rattle.keeping.specs.Keeping.Laws.{kept-none, kept-three}
 use Rattle.node_calls.specs.Calls.Storable.{AllShort, Storable}
-
-pub copied : (out : List ℕ) (from len i : ℕ) → i < len → len ≤ longestFrame → from + len ≤ length out
-    → set (padTo longestFrame (take i (drop from out))) i (getD out (from + i) 0) ≡ padTo longestFrame (take (i + 1) (drop from out))
-copied out from len i h short fits =
-    let l : i < length (drop from out) = simp length-drop (omega arith) in
-    pad-next longestFrame (take i (drop from out)) i (getD out (from + i) 0) (length-take-le i (drop from out) (omega arith)) (omega arith)
-    ∙ ap (padTo longestFrame) (sym
-    (rw (add-one i) (take-suc (drop from out) i 0 l ∙ ap (λ (x : ℕ). take i (drop from out) ++ (x ∷ [])) (getD-drop from out i 0))))
-
--- ---- one broadcast more
-pub part-length : (out : List ℕ) (from len : ℕ) → from + len ≤ length out → length (take len (drop from out)) ≡ len
-part-length out from len h = length-take-le len (drop from out) (simp length-drop (omega arith))
-
-pub kept-none : (v : Node) (bytes : List ℕ) → length bytes ≡ 0 → v ≡ keptOf v bytes
-unfolding keptOf
-kept-none v bytes e = chosen-yes _ (eq-eqb (length bytes) 0 e) refl
-
-pub kept-full : (v : Node) (bytes : List ℕ) → (length bytes ≡ 0 → ⊥) → mostBroadcasts ≤ v .count → v ≡ keptOf v bytes
-unfolding keptOf joined
-kept-full v bytes e h = chosen-no _ (ne-eqb (length bytes) 0 e) (chosen-no _ (le-ltb (v .count) mostBroadcasts h) refl)
-
-pub kept-more : (v : Node) (bytes : List ℕ)
-    → (length bytes ≡ 0 → ⊥) → v .count < mostBroadcasts → {frame : Frame} → frame ≡ storedFrame bytes
-    → record { base = v .base; count = v .count + 1; frames = set (v .frames) (v .count) frame; heard = v .heard } ≡ keptOf v bytes
-unfolding keptOf joined
-kept-more v bytes e h f = chosen-no _ (ne-eqb (length bytes) 0 e) (chosen-yes _ (lt-ltb (v .count) mostBroadcasts h)
-    (ap (λ (frame : Frame).
-    record { base = v .base; count = v .count + 1; frames = set (v .frames) (v .count) frame; heard = v .heard }) f))
 
 -- ---- three frames in an output
 encoded-some : (m : Message) → length (encode m) ≡ 0 → ⊥
@@ -179,32 +152,11 @@ module _ (v : Node) (d : Done) (T : Storable (v .base) d) (out : List ℕ) (wide
 
 -- ---- an outcome as numbers
 module _ (o : Outcome) {a : CallAnswer} (e : a ≡ outcomeNumbers o) where
-  pub numbers-fit : {room : ℕ} → Fitting o room → AllFit room 0 (a .first ∷ (a .second ∷ (a .third ∷ [])))
+  numbers-fit : {room : ℕ} → Fitting o room → AllFit room 0 (a .first ∷ (a .second ∷ (a .third ∷ [])))
   numbers-fit {room} F = subst (λ (n : CallAnswer). AllFit room 0 (n .first ∷ (n .second ∷ (n .third ∷ [])))) (sym e) F
 
-  pub numbers-answer : (v : Node) (out : List ℕ) {b c : Base} {w : Node} → c ≡ b
-      → w ≡ keptFrom (withBase v c) out 0 (a .first ∷ (a .second ∷ (a .third ∷ [])))
+  pub numbers-answer : (v : Node) (out : List ℕ) → Fitting o (length out) → {b c : Base} {w : Node} → c ≡ b
+      → w ≡ keptThree (withBase v c) out (a .first) (a .second) (a .third)
       → record { refusal = a .refusal; node = w } ≡ writtenAnswer v b o out
   unfolding writtenAnswer
-  numbers-answer v out d k = rw (k, d, e)
-
--- ---- the frames of an output, one after another
--- the i-th fits in its place, and those behind it in theirs
-abbrev pub FitsHere : List ℕ → List ℕ → ℕ → ℕ → Type 0
-FitsHere lengths out from i = AllFit (length out) from (getD lengths i 0 ∷ drop (i + 1) lengths)
-
-module _ (lengths : List ℕ) (out : List ℕ) (from i : ℕ) where
-  rest-here : i < length lengths → drop i lengths ≡ getD lengths i 0 ∷ drop (i + 1) lengths
-  rest-here h = rw (add-one i) (drop-cons lengths i 0 h)
-
-  pub fits-here : i < length lengths → AllFit (length out) from (drop i lengths) → FitsHere lengths out from i
-  fits-here h F = subst (AllFit (length out) from) (rest-here h) F
-
-  pub kept-here : i < length lengths → (v : Node) {w : Node} → w ≡ keptOf v (take (getD lengths i 0) (drop from out))
-      → keptFrom w out (from + getD lengths i 0) (drop (i + 1) lengths) ≡ keptFrom v out from (drop i lengths)
-  unfolding keptFrom
-  kept-here h v e = rw (e, rest-here h)
-
-  pub all-kept : i ≡ length lengths → {v w : Node} → keptFrom v out from (drop i lengths) ≡ w → v ≡ w
-  unfolding keptFrom
-  all-kept e {v} {w} k = subst (λ (l : List ℕ). keptFrom v out from l ≡ w) (ap (λ (j : ℕ). drop j lengths) e ∙ drop-length lengths) k
+  numbers-answer v out F d k = rw (k ∙ sym (kept-three _ out _ _ _ (numbers-fit F)), d, e)

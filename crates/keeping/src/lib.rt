@@ -8,9 +8,8 @@ ghost use mathlib.Core.Path.{_≡_};
 ghost use Prim.Native.Nat.{_+_, _≤_};
 ghost use lib.ListN.{length, take, drop};
 ghost use Rattle.limits.specs.Limits.{longestFrame};
-ghost use mathlib.Core.List.{[], _∷_};
 ghost use Rattle.node.specs.Node.{storedFrame, withBase};
-ghost use Rattle.node_calls.specs.Calls.{AllFit, keptFrom};
+ghost use Rattle.keeping.specs.Keeping.{threeFit, keptThree};
 
 // The len bytes of out from a place on, as a frame.
 fn frame_of(out: &[u8], from: usize, len: usize) -> Frame
@@ -26,8 +25,25 @@ fn frame_of(out: &[u8], from: usize, len: usize) -> Frame
     Frame { len, bytes }
 }
 
-// The record after a call, and up to three frames from the output that the call wrote, one behind the other. A length of zero is no frame.
-pub(crate) fn keep_three(
+// Whether each is no longer than a frame may be, and all have room, one behind the other.
+fn three_fit(room: usize, first: usize, second: usize, third: usize) -> bool
+    ensures { λ r. ⌜ r ≡ threeFit room first second third ⌝ }
+{
+    if LONGEST_FRAME < first {
+        return false;
+    }
+    if LONGEST_FRAME < second {
+        return false;
+    }
+    if LONGEST_FRAME < third {
+        return false;
+    }
+    first + second + third <= room
+}
+
+// The record after a call, and up to three frames from the output that the call wrote, one behind the other. A length of zero is no frame;
+// lengths that do not fit are none.
+pub fn keep_three(
     node: Node,
     base: Base,
     out: &[u8],
@@ -35,12 +51,14 @@ pub(crate) fn keep_three(
     second: usize,
     third: usize,
 ) -> Node
-    requires { ⌜ AllFit (length (now out)) 0 (first ∷ (second ∷ (third ∷ []))) ⌝ }
-    ensures { λ r. ⌜ r ≡ keptFrom (withBase node base) (now (out .entry)) 0 (first ∷ (second ∷ (third ∷ []))) ⌝ }
+    ensures { λ r. ⌜ r ≡ keptThree (withBase node base) (now (out .entry)) first second third ⌝ }
 {
     let lengths = [first, second, third];
     let mut after = node;
     after.base = base;
+    if !three_fit(out.len(), first, second, third) {
+        return after;
+    }
     let mut from: usize = 0;
     let mut i: usize = 0;
     while i < 3 {

@@ -1,4 +1,4 @@
--- `node_calls::keep::frame_of` meets its contract: the bytes copied so far stand at the front, zeros behind them.
+-- `keeping::frame_of` meets its contract: the bytes copied so far stand at the front, zeros behind them.
 use Prim.Native.Nat.{_≤_, _-_}
 use mathlib.Core.Path.{_≡_, refl}
 use native.Mathlib.Omega.{arith}
@@ -8,9 +8,9 @@ use lib.Seq.{length-take-le}
 use Rattle.limits.specs.Limits.{longestFrame}
 use Rattle.lists.specs.Lists.{padTo}
 use Rattle.node.specs.Node.{storedFrame}
-use Rattle.node_calls.specs.Calls.Laws.{copied}
-use Rattle.node_calls.proofs.keep.frame_of.Statement.{statement}
-use Rattle.node_calls.proofs.keep.frame_of.Tie as tie
+use Rattle.keeping.specs.Keeping.Laws.{copied}
+use Rattle.keeping.proofs.frame_of.Statement.{statement}
+use Rattle.keeping.proofs.frame_of.Tie as tie
 
 abbrev Inv-loop : tie.InvT-loop
 Inv-loop out from len bytes₀ i₀ bytes i = (i ≤ len) × (bytes ≡ padTo longestFrame (take i (drop from out)))

@@ -1,4 +1,4 @@
--- `node_calls::keep::keep_three` meets its contract: the frames that are left, kept on the base so far, give what all of them give.
+-- `keeping::keep_three` meets its contract: the frames that are left, kept on the base so far, give what all of them give.
 use Prim.Native.Nat.{ℕ, _+_, _≤_, _-_}
 use mathlib.Core.Path.{_≡_, refl, sym, _∙_}
 use mathlib.Core.List.{List, [], _∷_}
@@ -6,12 +6,15 @@ use denote.Ref.{now}
 use mathlib.Core.Logic.{⊎-elim}
 use native.Mathlib.Omega.{arith}
 use borrow.Author.Needs.{needs}
+use borrow.Author.Tests.{not-true, not-false}
+use Rattle.lists.specs.Choice.Laws.{chosen-no}
 use lib.ListN.{length, drop}
 use Rattle.node.specs.Node.{withBase}
-use Rattle.node_calls.specs.Calls.{AllFit, keptFrom}
-use Rattle.node_calls.specs.Calls.Laws.{FitsHere, fits-here, kept-here, all-kept, part-length, kept-none, kept-full, kept-more}
-use Rattle.node_calls.proofs.keep.keep_three.Statement.{statement}
-use Rattle.node_calls.proofs.keep.keep_three.Tie as tie
+use Rattle.keeping.specs.Keeping.{AllFit, keptFrom, keptThree}
+use Rattle.keeping.specs.Keeping.Laws.{FitsHere, fits-here, kept-here, all-kept, three-fit, kept-three}
+use Rattle.keeping.specs.Keeping.Laws.{part-length, kept-none, kept-full, kept-more}
+use Rattle.keeping.proofs.keep_three.Statement.{statement}
+use Rattle.keeping.proofs.keep_three.Tie as tie
 
 abbrev Inv-loop : tie.InvT-loop
 Inv-loop out first second third lengths after₀ from₀ i₀ after from i =
@@ -20,8 +23,15 @@ Inv-loop out first second third lengths after₀ from₀ i₀ after from i =
 abbrev μ-loop : tie.MeasureT-loop
 μ-loop out first second third lengths after₀ from₀ i₀ after from i = 3 - i
 
+three-fit-requires : tie.Need-three-fit-requires Inv-loop μ-loop
+three-fit-requires c κs = search needs
+
+returns : tie.Need-returns Inv-loop μ-loop
+unfolding withBase keptThree
+returns c = chosen-no _ (sym (c .before .three-fit .ensures) ∙ not-true _ (c .if1 .taken)) refl
+
 loop-holds : tie.Need-loop-holds Inv-loop μ-loop
-loop-holds c = (omega arith, (c .before .pre, refl))
+loop-holds c = (omega arith, (three-fit (sym (c .before .three-fit .ensures) ∙ not-false _ (c .if1 .left)), refl))
 
 mul-len : tie.Need-mul-len Inv-loop μ-loop
 mul-len c = search needs
@@ -30,12 +40,13 @@ array-read-len : tie.Need-array-read-len Inv-loop μ-loop
 array-read-len c = c .loop-test .taken
 
 abbrev lengthsAt : (c : tie.In-loop Inv-loop μ-loop) → List ℕ
-lengthsAt c = let a = c .before .before .before .args in a .first ∷ (a .second ∷ (a .third ∷ []))
+lengthsAt c = let a = c .before .before .before .before .before .args in a .first ∷ (a .second ∷ (a .third ∷ []))
 
 -- the frame of this turn fits, and so do those behind it
 fits : (c : tie.In-loop Inv-loop μ-loop)
-    → FitsHere (lengthsAt c) (now (c .before .before .before .args .out)) (c .before .loop .from) (c .before .loop .i)
-fits c = fits-here (lengthsAt c) (now (c .before .before .before .args .out)) _ _ (c .loop-test .taken) (c .before .loop .inv .1 .0)
+    → FitsHere (lengthsAt c) (now (c .before .before .before .before .before .args .out)) (c .before .loop .from) (c .before .loop .i)
+fits c = fits-here (lengthsAt c) (now (c .before .before .before .before .before .args .out)) _ _
+    (c .loop-test .taken) (c .before .loop .inv .1 .0)
 
 frame-of-requires : tie.Need-frame-of-requires Inv-loop μ-loop
 frame-of-requires c κs = let F = fits (c .before .before) in (F .0, omega (arith, F .1 .0))
@@ -50,7 +61,7 @@ add-after : tie.Need-add-after Inv-loop μ-loop
 add-after c = search needs
 
 add-from : tie.Need-add-from Inv-loop μ-loop
-add-from c = record { fits = omega (arith, fits (c .before) .1 .0, c .before .before .before .before .good .1 .1 .0 .0) }
+add-from c = record { fits = omega (arith, fits (c .before) .1 .0, c .before .before .before .before .before .before .good .1 .1 .0 .0) }
 
 add-i : tie.Need-add-i Inv-loop μ-loop
 add-i c = search needs
@@ -66,15 +77,16 @@ loop-again c =
     let l = part-length _ _ _ (F .1 .0) in
     let kept = ⊎-elim (λ w. w .3 ∙ kept-more _ _ (λ z. w .0 .taken (sym l ∙ z)) (w .1 .taken) (w .2 .ensures))
     (⊎-elim (λ w. w .2 ∙ kept-full _ _ (λ z. w .0 .taken (sym l ∙ z)) (w .1 .left)) (λ w. w .1 ∙ kept-none _ _ (l ∙ w .0 .left)))
-    (c .if1 .came) in
+    (c .if2 .came) in
     (more, (F .1 .1, kept-here (lengthsAt (c .before)) _ _ _ (c .before .loop-test .taken) _ kept ∙ c .before .before .loop .inv .1 .1))
 
-returns : tie.Need-returns Inv-loop μ-loop
+returns-2 : tie.Need-returns-2 Inv-loop μ-loop
 unfolding withBase
-returns c =
-    let a = c .before .before .before .args in
+returns-2 c =
+    let a = c .before .before .before .before .before .args in
     let l = c .before .loop in
     all-kept (a .first ∷ (a .second ∷ (a .third ∷ []))) _ (l .from) (l .i) (omega arith) (l .inv .1 .1)
+    ∙ kept-three _ _ _ _ _ (three-fit (sym (c .before .before .before .three-fit .ensures) ∙ not-false _ (c .before .before .if1 .left)))
 
 pub keep-three-spec : {M : Type 1} → statement M
 keep-three-spec =
@@ -82,6 +94,8 @@ keep-three-spec =
     (tie.spec
     Inv-loop
     μ-loop
+    three-fit-requires
+    returns
     loop-holds
     mul-len
     array-read-len
@@ -93,4 +107,4 @@ keep-three-spec =
     add-i
     loop-less
     loop-again
-    returns)
+    returns-2)
