@@ -7,7 +7,7 @@ use crate::causes;
 use crate::faults::Fault;
 use crate::figures;
 use crate::generate::{histories, schedules};
-use crate::limits::{link_to, LONGEST_SCHEDULE};
+use crate::limits::{frame_bytes, link_to, LONGEST_SCHEDULE};
 use crate::message::Message;
 use crate::model::Model;
 use crate::net::{Event, History, Net};
@@ -210,7 +210,7 @@ fn told(line: usize, net: &Net, event: &Event) -> Told {
 /// Of a burst that is refused for what its trailer says.
 fn trailer(number: Number, burst: &[u8]) -> String {
     let &[.., kind, count, high, low] = burst else { return String::new() };
-    let (back, right) = (u16::from_be_bytes([high, low]), 4 * u16::from(count) + 4);
+    let (back, right) = (usize::from(u16::from_be_bytes([high, low])), frame_bytes(usize::from(count)));
     match number {
         8 => format!("kind {kind}"),
         9 => format!("kind {kind}, count {count}"),
