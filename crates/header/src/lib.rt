@@ -2,10 +2,8 @@
 use base_identifiers::id_refusal;
 use base_identifiers::with_id;
 use faulty_links::Faulty;
-use faulty_links::faulty_refusal;
-use faulty_links::is_good;
 use faulty_links::no_faulty;
-use faulty_links::with_faulty;
+use faulty_naming::name_faulty;
 use header_forms::faulty_line;
 use header_forms::id_line;
 use header_forms::net_line;
@@ -123,16 +121,13 @@ fn mark_faulty(header: Header, a: u8, b: u8, next: usize) -> Header
     requires { ⌜ header .line ≤ mostLines ⌝ }
     ensures { λ r. ⌜ begunNet r ≡ markStep replaying a b next (begunNet header) ⌝ }
 {
-    let faulty = header.faulty;
-    if is_good(faulty, a, b) {
-        let refusal = faulty_refusal(faulty, header.t);
-        if refusal != 0 {
-            return refuse(header, refusal);
-        }
-        let ids = header.ids;
-        return onward(header, ids, with_faulty(faulty, a, b), next);
+    let named = name_faulty(header.faulty, header.t, a, b);
+    if named.refusal != 0 {
+        return refuse(header, named.refusal);
     }
-    refuse(header, FORM)
+    let ids = header.ids;
+    let faulty = named.faulty;
+    onward(header, ids, faulty, next)
 }
 
 // `faulty a b`, if that is the next line
