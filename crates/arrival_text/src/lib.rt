@@ -8,9 +8,9 @@ use cause_text::meanings::meaning;
 use frame::kind::CORRECT_FINAL;
 use frame::kind::VERIFY_FINAL;
 use message_text::say;
+use numbering::link_at;
 use protocol::Base;
 use protocol::Link;
-use suspect_text::links::link_at;
 
 // On which link a burst arrives, from which base or as if from it.
 pub struct Arrival {

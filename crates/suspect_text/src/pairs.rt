@@ -1,10 +1,11 @@
 // The suspect pairs by their identifiers, and what makes each suspect: a link that lacks a Verify of the other.
-use crate::links::far_end;
-use crate::links::link_at;
 use certified::link_count;
 use held::has_announce;
 use held_lists::holds_verify;
 use limits::MOST_FAULTY;
+use limits::MOST_LINKS;
+use numbering::base_at;
+use numbering::link_at;
 use output::number;
 use output::text;
 use parts::plus;
@@ -20,6 +21,14 @@ pub(crate) fn lacks(link: Link, g: u32) -> bool {
         return !holds_verify(link, g);
     }
     false
+}
+
+// The base at the end of that link of base b.
+fn far_end(b: u8, number: usize) -> usize {
+    if MOST_LINKS < number {
+        return 0;
+    }
+    base_at(b, number as u8)
 }
 
 // `link 1 from base 2 lacks Verify 120`

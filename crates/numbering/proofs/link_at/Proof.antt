@@ -1,12 +1,12 @@
--- `suspect_text::links::link_at` meets its contract: the lesser of two places is one of the links.
+-- `numbering::link_at` meets its contract: the lesser of two places is one of the links.
 use Rattle.protocol.specs.Record.{linkAt}
 use Rattle.limits.specs.Limits.{mostLinks}
 use native.Mathlib.Omega.{arith}
 use mathlib.Core.Path.{_≡_, ap}
 use Prim.Native.Nat.{ℕ, _<_, _-_, min}
 use borrow.Author.Needs.{needs}
-use Rattle.suspect_text.proofs.links.link_at.Statement.{statement}
-use Rattle.suspect_text.proofs.links.link_at.Tie as tie
+use Rattle.numbering.proofs.link_at.Statement.{statement}
+use Rattle.numbering.proofs.link_at.Tie as tie
 
 between-requires : tie.Need-between-requires
 between-requires c κs = search needs
