@@ -14,7 +14,7 @@ fn alike(one: &[u8], other: &[u8], from: usize) -> bool {
 }
 
 // The number of the first line of a schedule that is like that one, from a field on.
-pub(crate) fn first_alike(s: &[u8], line: &[u8], from: usize) -> usize {
+pub fn first_alike(s: &[u8], line: &[u8], from: usize) -> usize {
     let mut next: usize = 0;
     let mut k: usize = 0;
     while k < s.len() {

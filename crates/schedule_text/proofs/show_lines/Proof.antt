@@ -2,8 +2,8 @@
 use Prim.Native.Nat.{_≤_, _-_}
 use borrow.Author.Needs.{needs}
 use lib.ListN.{length}
-use Rattle.schedule_trace.proofs.show_lines.Statement.{statement}
-use Rattle.schedule_trace.proofs.show_lines.Tie as tie
+use Rattle.schedule_text.proofs.show_lines.Statement.{statement}
+use Rattle.schedule_text.proofs.show_lines.Tie as tie
 
 abbrev Inv-loop : tie.InvT-loop
 Inv-loop s end at₀ number₀ k₀ at number k = k ≤ length s

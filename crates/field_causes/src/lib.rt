@@ -1,5 +1,7 @@
-// The fields of a line whose word stands in its place.
-use crate::RefusedLine;
+// Number 13: what is wrong with the fields of a line whose word stands in its place, by themselves and held against the net. What is
+// found is answered as a cause.
+pub mod alike;
+
 use crate::alike::first_alike;
 use cause_text::cause::Cause;
 use cause_text::cause::counted;
@@ -62,7 +64,7 @@ fn is_base(line: &[u8], i: usize, n: usize) -> bool {
 }
 
 // What is told of hex behind the count of fields: the bytes may be missing with their space.
-pub(crate) fn hex_hint(kind: usize, line: &[u8], n: usize) -> Cause {
+pub fn hex_hint(kind: usize, line: &[u8], n: usize) -> Cause {
     let count = spaces(line);
     if kind != FORGE {
         return said(NONE);
@@ -131,7 +133,7 @@ fn faulty(s: &[u8], line: &[u8]) -> Cause {
 }
 
 // Of a base whose line stands before the one that is refused, which line that is.
-pub(crate) fn line_of_base(line: &[u8], number: usize) -> Cause {
+pub fn line_of_base(line: &[u8], number: usize) -> Cause {
     let b = value(line, 1);
     if b == 0 {
         return said(NONE);
@@ -152,11 +154,10 @@ fn id(line: &[u8], number: usize, n: usize) -> Cause {
 }
 
 // The fields together, and held against the net.
-fn together(kind: usize, s: &[u8], line: &[u8], refused: RefusedLine) -> Cause {
-    let n = refused.n;
+fn together(kind: usize, s: &[u8], line: &[u8], number: usize, n: usize) -> Cause {
     match kind {
         NET => said(NONE),
-        ID => id(line, refused.number, n),
+        ID => id(line, number, n),
         FAULTY => or(bases(line, n), faulty(s, line)),
         START => base(line, 1, n),
         CARRY => or(bases(line, n), said(sentences::NUMBER_ZERO)),
@@ -164,11 +165,16 @@ fn together(kind: usize, s: &[u8], line: &[u8], refused: RefusedLine) -> Cause {
     }
 }
 
-pub(crate) fn fields(kind: usize, s: &[u8], line: &[u8], refused: RefusedLine) -> Cause {
+// Each field by itself.
+fn each(kind: usize, line: &[u8]) -> Cause {
+    or(decimal(line, 1), or(decimal(line, 2), third(kind, line)))
+}
+
+// Of the line of that number, in a net of n.
+pub fn field_cause(kind: usize, s: &[u8], line: &[u8], number: usize, n: usize) -> Cause {
     let count = spaces(line);
     if count != asked(kind) {
         return counted(sentences::FIELD_COUNT, count);
     }
-    let numbers = or(decimal(line, 1), or(decimal(line, 2), third(kind, line)));
-    or(numbers, together(kind, s, line, refused))
+    or(each(kind, line), together(kind, s, line, number, n))
 }

@@ -1,8 +1,8 @@
 -- The broadcasts are counted up to their number.
 use Prim.Native.Nat.{_≤_, _-_}
 use borrow.Author.Needs.{needs}
-use Rattle.schedule_trace.proofs.waits.numbers.Statement.{statement}
-use Rattle.schedule_trace.proofs.waits.numbers.Tie as tie
+use Rattle.schedule_text.proofs.waits.numbers.Statement.{statement}
+use Rattle.schedule_text.proofs.waits.numbers.Tie as tie
 
 abbrev Inv-loop : tie.InvT-loop
 Inv-loop node a count k₀ t5 t6 k = k ≤ count

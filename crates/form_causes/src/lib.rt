@@ -1,7 +1,8 @@
-// Number 13: what breaks a line's form. It is looked for in the bytes first, then in the spaces, the word and the fields.
-use crate::RefusedLine;
+// Number 13: what breaks a line's form before its fields are looked at: its bytes, its spaces, its word. What is found is answered as a
+// cause.
+mod encoding;
+
 use crate::encoding::encoding;
-use crate::fields::fields;
 use cause_text::cause::Cause;
 use cause_text::cause::counted;
 use cause_text::cause::of_byte;
@@ -10,7 +11,6 @@ use cause_text::cause::or;
 use cause_text::cause::said;
 use cause_text::sentences;
 use cause_text::sentences::NONE;
-use limits::LONGEST_SCHEDULE;
 use line_fields::bytes::COMMENT;
 use line_fields::bytes::NOT_PRINTING;
 use line_fields::bytes::SPACE;
@@ -28,7 +28,7 @@ use parts::part;
 use parts::plus;
 
 // The line of the header that belongs here: of the net, or of base b in line b + 1.
-pub(crate) fn belongs(number: usize) -> Cause {
+pub fn belongs(number: usize) -> Cause {
     if number < 2 {
         return said(sentences::FIRST_LINE);
     }
@@ -105,6 +105,14 @@ fn unknown(kind: usize, line: &[u8]) -> Cause {
     said(sentences::NO_WORD)
 }
 
+// The kind of a header's line but for the faulty links.
+fn header_kind(number: usize) -> usize {
+    if number < 2 {
+        return NET;
+    }
+    ID
+}
+
 fn behind_the_header(kind: usize, number: usize, events: usize) -> Cause {
     if kind == NET {
         return said(sentences::NET_AGAIN);
@@ -118,39 +126,28 @@ fn behind_the_header(kind: usize, number: usize, events: usize) -> Cause {
 }
 
 // A word that stands in another place than its own.
-fn misplaced(kind: usize, refused: RefusedLine) -> Cause {
-    if plus(refused.n, 1) < refused.number {
-        let events = plus(plus(refused.n, refused.faulty), 2);
-        return behind_the_header(kind, refused.number, events);
+fn misplaced(kind: usize, number: usize, n: usize, faulty: usize) -> Cause {
+    if plus(n, 1) < number {
+        return behind_the_header(kind, number, plus(plus(n, faulty), 2));
     }
-    let mut wanted = ID;
-    if refused.number < 2 {
-        wanted = NET;
-    }
-    if kind == wanted {
+    if kind == header_kind(number) {
         return said(NONE);
     }
-    belongs(refused.number)
+    belongs(number)
 }
 
-fn ended_line(kind: usize, s: &[u8], line: &[u8], refused: RefusedLine) -> Cause {
-    let space = or(space_before(line), last_space(kind, line));
-    let word = or(unknown(kind, line), misplaced(kind, refused));
-    or(space, or(word, fields(kind, s, line, refused)))
-}
-
-pub(crate) fn form_cause(kind: usize, s: &[u8], line: &[u8], refused: RefusedLine) -> Cause {
-    let at = refused.at;
-    if LONGEST_SCHEDULE < s.len() {
-        return said(sentences::TOO_LONG);
-    }
-    if s.len() <= at {
-        return counted(sentences::ENDS_BEFORE, refused.number);
-    }
+// Of a line that begins at a place.
+pub fn byte_cause(s: &[u8], line: &[u8], at: usize) -> Cause {
     let comment = of_byte(sentences::NO_COMMENTS, line, place_of(line, COMMENT));
     let bytes = or(comment, or(odd_bytes(line), unended(s, line, at)));
-    or(
-        encoding(s, at),
-        or(bytes, ended_line(kind, s, line, refused)),
-    )
+    or(encoding(s, at), bytes)
+}
+
+pub fn space_cause(kind: usize, line: &[u8]) -> Cause {
+    or(space_before(line), last_space(kind, line))
+}
+
+// Of the line of that number, in a net of n with so many faulty links.
+pub fn word_cause(kind: usize, line: &[u8], number: usize, n: usize, faulty: usize) -> Cause {
+    or(unknown(kind, line), misplaced(kind, number, n, faulty))
 }

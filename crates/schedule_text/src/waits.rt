@@ -54,7 +54,7 @@ fn from(net: StoredNet, a: u8) {
 }
 
 // A line for each base and each other one for which some of its broadcasts wait.
-pub(crate) fn itemise(net: StoredNet) {
+pub fn itemise(net: StoredNet) {
     let n = net.n;
     let mut a: u8 = 0;
     while a < n {
