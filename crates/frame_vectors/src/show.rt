@@ -3,17 +3,13 @@ use libc::STDOUT_FILENO;
 use message_text::say::each_identifier;
 use output::number;
 use output::text;
+use output::with_numbers;
 use reader::Reading;
 use writer::Written;
 
 pub(crate) fn text_line(s: &[u8]) {
     text(s);
     text(b"\n");
-}
-
-fn labelled(label: &[u8], v: usize) {
-    text(label);
-    number(v);
 }
 
 fn two_digits(b: u8) {
@@ -38,11 +34,10 @@ fn bytes(s: &[u8]) {
 fn message(reading: Reading, body: &[u8]) {
     match reading {
         Reading::Message { kind, count, start } => {
-            labelled(b" kind ", kind as usize);
-            labelled(b" at ", start);
+            with_numbers(b" kind # at #", [kind as usize, start, 0]);
             each_identifier(decoding::identifiers(body), count);
         }
-        Reading::Refused(r) => labelled(b" refused ", r as usize),
+        Reading::Refused(r) => with_numbers(b" refused #", [r as usize, 0, 0]),
     }
 }
 
@@ -57,8 +52,8 @@ pub(crate) fn reading(n: usize, burst: &[u8]) {
 
 fn length(written: Written) {
     match written {
-        Written::Length(length) => labelled(b"length ", length),
-        Written::Refused(r) => labelled(b"refused ", r as usize),
+        Written::Length(length) => with_numbers(b"length #", [length, 0, 0]),
+        Written::Refused(r) => with_numbers(b"refused #", [r as usize, 0, 0]),
     }
 }
 
@@ -77,7 +72,6 @@ pub(crate) fn written(n: usize, kind: u8, ids: &[u32], output: &mut [u8]) {
 // The lengths of two frames, and the output after them.
 pub(crate) fn two(kind: u8, next: u8, n: u8, ids: &[u32], output: &mut [u8]) {
     let lengths = two_frames::put_two(kind, next, n, ids, output);
-    labelled(b"lengths ", lengths.front);
-    labelled(b" ", lengths.next);
+    with_numbers(b"lengths # #", [lengths.front, lengths.next, 0]);
     output_line(output);
 }

@@ -6,8 +6,8 @@ use net::StoredNet;
 use net::nodes::node_at;
 use node::Node;
 use node::log::broadcasts;
-use output::number;
 use output::text;
+use output::with_numbers;
 
 // Those of a's first count broadcasts that this base has not heard.
 fn numbers(node: Node, a: u8, count: usize) {
@@ -15,8 +15,7 @@ fn numbers(node: Node, a: u8, count: usize) {
     while k < count {
         k += 1;
         if !heard(node, a, k) {
-            text(b" ");
-            number(k);
+            with_numbers(b" #", [k, 0, 0]);
         }
     }
     text(b"\n");
@@ -26,11 +25,10 @@ fn unheard_line(receiver: Node, a: u8, b: u8, count: usize) {
     if unheard(receiver, a, count) == 0 {
         return;
     }
-    text(b"waiting from base ");
-    number(a as usize);
-    text(b" to base ");
-    number(b as usize);
-    text(b", by number:");
+    with_numbers(
+        b"waiting from base # to base #, by number:",
+        [a as usize, b as usize, 0],
+    );
     numbers(receiver, a, count);
 }
 
