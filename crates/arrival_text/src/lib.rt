@@ -8,9 +8,10 @@ use cause_text::meanings::meaning;
 use frame::kind::CORRECT_FINAL;
 use frame::kind::VERIFY_FINAL;
 use message_text::say;
+use numbering::link_at;
+use output::with_numbers;
 use protocol::Base;
 use protocol::Link;
-use suspect_text::links::link_at;
 
 // On which link a burst arrives, from which base or as if from it.
 pub struct Arrival {
@@ -27,10 +28,10 @@ fn as_if(forged: bool) {
 
 fn on_link(arrival: Arrival, words: &[u8]) {
     as_if(arrival.forged);
-    output::text(b" from base ");
-    output::number(arrival.from as usize);
-    output::text(b" on link ");
-    output::number(arrival.link);
+    with_numbers(
+        b" from base # on link #",
+        [arrival.from as usize, arrival.link, 0],
+    );
     output::text(words);
 }
 
@@ -41,8 +42,7 @@ fn hears(b: u8, n: u8, burst: &[u8]) {
 
 // The number, and what it means.
 fn refusal(number: u8, burst: &[u8]) {
-    output::number(number as usize);
-    output::text(b", ");
+    with_numbers(b"#, ", [number as usize, 0, 0]);
     meaning(number as usize);
     trailer::shown(number, burst);
     output::text(b"\n");

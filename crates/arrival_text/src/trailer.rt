@@ -4,38 +4,26 @@ use limits::frame_bytes;
 use limits::refusal::BACK_DISTANCE;
 use limits::refusal::COUNT;
 use limits::refusal::KIND;
-use output::number;
-use output::text;
+use output::with_numbers;
 
 fn kind_alone(kind: u8) {
-    text(b" (kind ");
-    number(kind as usize);
-    text(b")");
+    with_numbers(b" (kind #)", [kind as usize, 0, 0]);
 }
 
 fn kind_and_count(kind: u8, count: u8) {
-    text(b" (kind ");
-    number(kind as usize);
-    text(b", count ");
-    number(count as usize);
-    text(b")");
+    with_numbers(b" (kind #, count #)", [kind as usize, count as usize, 0]);
 }
 
 // What it should be; or the burst's length, which it exceeds.
 fn right_distance(back: usize, right: usize, length: usize) {
     if back == right {
-        text(b", and the burst has ");
-        number(length);
-        return text(b" bytes)");
+        return with_numbers(b", and the burst has # bytes)", [length, 0, 0]);
     }
-    text(b", where ");
-    number(right);
-    text(b" belongs)")
+    with_numbers(b", where # belongs)", [right, 0, 0]);
 }
 
 fn back_distance(back: usize, count: u8, length: usize) {
-    text(b" (back distance ");
-    number(back);
+    with_numbers(b" (back distance #", [back, 0, 0]);
     right_distance(back, frame_bytes(count), length);
 }
 

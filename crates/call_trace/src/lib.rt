@@ -20,6 +20,7 @@ use message_text::frames::of_start;
 use message_text::frames::say_behind_start;
 use message_text::frames::say_broadcasts;
 use message_text::say;
+use output::with_numbers;
 use protocol::Base;
 use protocol::IDLE;
 use protocol::PRIME;
@@ -36,9 +37,7 @@ fn stop(b: u8, n: u8, state: u8, list: [u32; MOST_BASES]) {
     say::base(b, b" stops: ");
     state_word(state);
     say::each_identifier(list, n as usize);
-    output::text(b" leader ");
-    output::number(leader_of(&list) as usize);
-    output::text(b"\n");
+    with_numbers(b" leader #\n", [leader_of(&list) as usize, 0, 0]);
 }
 
 // The secondary check; sent is 1 where the base had sent its Verify-Final.
@@ -124,6 +123,26 @@ fn answered(
     }
 }
 
+// A message that was not refused, at a base as it was before and after.
+fn arrived(
+    caller: Caller,
+    base: Base,
+    after: Base,
+    arrival: Arrival,
+    answer: CallAnswer,
+    burst: &[u8],
+    frames: &[u8],
+) {
+    let accepted = answer.outcome == ACCEPTED;
+    if base.state == IDLE {
+        starts(caller.b, base.n, caller.made, answer, frames);
+        say_heard(caller.b, base, arrival, accepted, burst);
+        return answered_first(caller, after, answer, burst, frames);
+    }
+    say_heard(caller.b, base, arrival, accepted, burst);
+    answered(caller, base.sent, after, answer, burst, frames);
+}
+
 // A burst arrives at base b, which had made so many broadcasts.
 pub fn arrival_call(b: u8, base: Base, made: usize, arrival: Arrival, burst: &[u8]) {
     let mut frames = [0u8; OUTPUT_ROOM];
@@ -135,11 +154,5 @@ pub fn arrival_call(b: u8, base: Base, made: usize, arrival: Arrival, burst: &[u
     }
     let after = changed(base, change);
     let caller = caller_of(b, made, after);
-    if base.state == IDLE {
-        starts(b, base.n, made, answer, &frames);
-        say_heard(b, base, arrival, answer.outcome == ACCEPTED, burst);
-        return answered_first(caller, after, answer, burst, &frames);
-    }
-    say_heard(b, base, arrival, answer.outcome == ACCEPTED, burst);
-    answered(caller, base.sent, after, answer, burst, &frames);
+    arrived(caller, base, after, arrival, answer, burst, &frames);
 }

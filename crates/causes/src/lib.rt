@@ -1,24 +1,25 @@
 // Why a line of a schedule is refused, told on standard output: the line as it stands, the number in words, and the cause where there is
 // one to name. A cause is read off the schedule's own bytes.
-mod alike;
-mod encoding;
-mod fields;
-mod form;
 mod numbers;
 
-use crate::fields::hex_hint;
-use crate::fields::line_of_base;
-use crate::form::belongs;
-use crate::form::form_cause;
 use crate::numbers::number_cause;
 use cause_text::cause::Cause;
 use cause_text::cause::counted;
+use cause_text::cause::or;
 use cause_text::cause::said;
 use cause_text::sentences;
 use cause_text::sentences::ENDS_BEFORE;
 use cause_text::sentences::FIELD_COUNT;
 use cause_text::sentences::OTHER_BASE;
 use cause_text::tell::tell;
+use field_causes::field_cause;
+use field_causes::hex_hint;
+use field_causes::line_of_base;
+use form_causes::belongs;
+use form_causes::byte_cause;
+use form_causes::space_cause;
+use form_causes::word_cause;
+use limits::LONGEST_SCHEDULE;
 use limits::refusal::FORM;
 use line_fields::forms::kind_of;
 use line_fields::line::line_at;
@@ -36,6 +37,29 @@ pub struct RefusedLine {
     pub faulty: usize,
     // Of a carry: how many messages its sender has broadcast.
     pub broadcasts: usize,
+}
+
+// The first cause in the bytes, the spaces, the word and the fields of a line that ends.
+fn ended_line(kind: usize, s: &[u8], line: &[u8], refused: RefusedLine) -> Cause {
+    let number = refused.number;
+    let n = refused.n;
+    let word = word_cause(kind, line, number, n, refused.faulty);
+    let behind = or(word, field_cause(kind, s, line, number, n));
+    or(
+        byte_cause(s, line, refused.at),
+        or(space_cause(kind, line), behind),
+    )
+}
+
+// Number 13: what breaks a line's form.
+fn form_cause(kind: usize, s: &[u8], line: &[u8], refused: RefusedLine) -> Cause {
+    if LONGEST_SCHEDULE < s.len() {
+        return said(sentences::TOO_LONG);
+    }
+    if s.len() <= refused.at {
+        return counted(sentences::ENDS_BEFORE, refused.number);
+    }
+    ended_line(kind, s, line, refused)
 }
 
 fn cause_of(kind: usize, s: &[u8], line: &[u8], refused: RefusedLine) -> Cause {

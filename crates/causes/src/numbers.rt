@@ -1,11 +1,11 @@
 // The causes of numbers 1 to 3 and 14 to 18.
 use crate::RefusedLine;
-use crate::alike::first_alike;
 use cause_text::cause::Cause;
 use cause_text::cause::counted;
 use cause_text::cause::of_field;
 use cause_text::cause::said;
 use cause_text::sentences;
+use field_causes::alike::first_alike;
 use limits::most_faulty;
 use limits::refusal;
 use line_fields::line::value;

@@ -4,10 +4,11 @@ use certified::link_count;
 use frame::kind::CORRECT_FINAL;
 use limits::MOST_BASES;
 use message_text::say;
+use numbering::link_at;
+use output::with_numbers;
 use protocol::Base;
 use protocol::PRIME;
 use protocol::SECONDARY;
-use suspect_text::links::link_at;
 use suspect_text::missing::missing_verifies;
 use suspect_text::pairs::suspect_pairs;
 use suspects::suspect_count;
@@ -42,9 +43,7 @@ fn verdict(state: u8) {
 // Words, and `310 has 3`
 fn tally(base: Base, g: u32, words: &[u8]) {
     output::text(words);
-    output::number(g as usize);
-    output::text(b" has ");
-    output::number(tally_of(base, g));
+    with_numbers(b"# has #", [g as usize, tally_of(base, g), 0]);
 }
 
 fn link_tallies(base: Base) {
@@ -71,16 +70,19 @@ fn is_short(certified: usize, sum: usize, n: u8, t: u8) -> bool {
     sum < sum_asked(n, t)
 }
 
-fn suspects(suspected: usize, t: u8) {
-    output::number(suspected);
-    output::text(b", at most ");
-    output::number(t as usize);
+fn certified_figures(b: u8, n: u8, certified: usize) {
+    with_numbers(
+        b"  base #, prime check: certified #, # needed",
+        [b as usize, certified, n as usize],
+    );
 }
 
-fn prime_figures(b: u8, n: u8, t: u8, certified: usize, sum: usize) {
-    say::base(b, b", prime check: certified ");
-    say::needed(certified, n as usize, b"; sum ");
-    say::needed(sum, sum_asked(n, t), b"; suspects ");
+fn sum_figures(n: u8, t: u8, sum: usize, suspected: usize) {
+    with_numbers(
+        b"; sum #, # needed; suspects #",
+        [sum, sum_asked(n, t), suspected],
+    );
+    with_numbers(b", at most #", [t as usize, 0, 0]);
 }
 
 // What is behind the figures.
@@ -100,8 +102,8 @@ pub fn prime(b: u8, base: Base) {
     let suspected = suspect_count(base);
     let certified = certified_count(base);
     let sum = tally_sum(base);
-    prime_figures(b, base.n, base.t, certified, sum);
-    suspects(suspected, base.t);
+    certified_figures(b, base.n, certified);
+    sum_figures(base.n, base.t, sum, suspected);
     verdict(base.state);
     let short = is_short(certified, sum, base.n, base.t);
     reasons(b, base, short, 0 < suspected);
@@ -121,16 +123,17 @@ pub fn sent_before(b: u8, base: Base, kind: u8, v: [u32; MOST_BASES]) {
     }
 }
 
+fn list_figures(tally: usize, t: u8, correct: usize) {
+    with_numbers(
+        b": tally #, # needed; Correct-Finals #, 2 needed",
+        [tally, t as usize + 1, correct],
+    );
+}
+
 // On the first n identifiers of v.
 pub fn secondary(b: u8, base: Base, v: [u32; MOST_BASES]) {
     say::base(b, b", secondary check of");
     say::each_identifier(v, base.n as usize);
-    output::text(b": tally ");
-    say::needed(
-        list_tally(base, v),
-        base.t as usize + 1,
-        b"; Correct-Finals ",
-    );
-    say::needed(correct_count(base, v), 2, b"");
+    list_figures(list_tally(base, v), base.t, correct_count(base, v));
     verdict(base.state);
 }

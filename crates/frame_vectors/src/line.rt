@@ -1,124 +1,85 @@
-// The parts of a line of vectors.
+// The fields of a line of vectors, for numbers up to the largest and for more bytes than a burst may have.
+use hexadecimal::hex_bytes;
 use limits::LIST_ROOM;
 use limits::LONGEST_BURST;
-ghost use Prim.Native.Nat.{_≤_};
-ghost use lib.ListN.{length};
+use line_fields::bytes::spaces;
+use line_fields::line::field;
+use parts::between;
+use parts::plus;
 
 // Room for more than a burst may have, and for more identifiers than a list.
 pub(crate) const BYTES: usize = 2 * LONGEST_BURST;
 
 pub(crate) const IDENTIFIERS: usize = 2 * LIST_ROOM;
 
-pub(crate) struct Decimal {
-    pub(crate) value: usize,
-    pub(crate) next: usize,
-}
-
-pub(crate) struct HexBytes {
-    pub(crate) len: usize,
-    pub(crate) bytes: [u8; BYTES],
-}
-
-pub(crate) struct Ids {
-    pub(crate) len: usize,
-    pub(crate) list: [u32; IDENTIFIERS],
-}
-
-// Where the line from at on ends.
-pub(crate) fn end(text: &[u8], at: usize) -> usize
-    requires { ⌜ at ≤ length (now text) ⌝ }
-    ensures { λ r. ⌜ (at ≤ r) × (r ≤ length (now (text .entry))) ⌝ }
-{
-    let mut i = at;
-    while i < text.len() {
-        if text[i] == b'\n' {
-            return i;
-        }
-        i += 1;
-    }
-    i
-}
-
-pub(crate) fn letter(text: &[u8]) -> u8 {
-    if text.len() == 0 {
+pub(crate) fn letter(line: &[u8]) -> u8 {
+    if line.len() == 0 {
         return 0;
     }
-    text[0]
+    line[0]
 }
 
-fn digit(b: u8) -> usize
-    ensures { λ r. ⌜ r ≤ 16 ⌝ }
-{
-    match b {
-        b'0'..=b'9' => (b - b'0') as usize,
-        b'a'..=b'f' => (b - b'a') as usize + 10,
-        _ => 16,
-    }
-}
-
-// A value with one digit more; the largest number where that does not fit.
-fn with_digit(value: usize, d: usize) -> usize {
+// A number with one digit more; the largest number where that does not fit.
+fn with_digit(value: usize, sign: u8) -> usize {
     if value > 1844674407370955160 {
         return 18446744073709551615;
     }
-    value * 10 + d % 10
+    value * 10 + (sign % 16 % 10) as usize
 }
 
-// The decimal number from at on, and the place past the space behind it.
-pub(crate) fn decimal_at(text: &[u8], at: usize) -> Decimal {
+fn decimal(digits: &[u8]) -> usize {
     let mut value: usize = 0;
-    let mut i = at;
-    while i < text.len() {
-        let d = digit(text[i]);
-        if d > 9 {
-            return Decimal { value, next: i + 1 };
-        }
-        value = with_digit(value, d);
+    let mut i: usize = 0;
+    while i < digits.len() {
+        value = with_digit(value, digits[i]);
         i += 1;
     }
-    Decimal { value, next: i }
+    value
 }
 
-pub(crate) fn hex(text: &[u8], at: usize) -> HexBytes {
+// The number in a field.
+pub(crate) fn count(line: &[u8], i: usize) -> usize {
+    decimal(field(line, i))
+}
+
+pub(crate) fn small(line: &[u8], i: usize) -> u8 {
+    (count(line, i) % 256) as u8
+}
+
+fn identifier(line: &[u8], i: usize) -> u32 {
+    (count(line, i) % 4294967296) as u32
+}
+
+// The byte in hexadecimal behind so many others.
+fn byte_at(digits: &[u8], i: usize) -> u8 {
+    let byte = hex_bytes(digits, plus(i, i), 1);
+    byte[0]
+}
+
+pub(crate) fn hex(digits: &[u8]) -> [u8; BYTES] {
     let mut bytes = [0u8; BYTES];
-    let mut i = at;
-    let mut len: usize = 0;
-    while len < BYTES {
-        if text.len() <= i {
-            return HexBytes { len, bytes };
-        }
-        if text.len() - i < 2 {
-            return HexBytes { len, bytes };
-        }
-        bytes[len] = (digit(text[i]) * 16 % 256 + digit(text[i + 1]) % 16) as u8;
-        i += 2;
-        len += 1;
+    let mut i: usize = 0;
+    while i < BYTES {
+        bytes[i] = byte_at(digits, i);
+        i += 1;
     }
-    HexBytes { len, bytes }
+    bytes
 }
 
-pub(crate) fn ids_at(text: &[u8], at: usize) -> Ids {
-    let mut list = [0u32; IDENTIFIERS];
-    let mut place = at;
-    let mut len: usize = 0;
-    while len < IDENTIFIERS {
-        if place >= text.len() {
-            return Ids { len, list };
-        }
-        let n = decimal_at(text, place);
-        list[len] = (n.value % 4294967296) as u32;
-        place = n.next;
-        len += 1;
+// How many fields there are from one on.
+pub(crate) fn behind_fields(line: &[u8], from: usize) -> usize {
+    between(from, plus(spaces(line), 2))
+}
+
+// The identifiers from a field on, zeros behind them.
+pub(crate) fn ids_from(line: &[u8], from: usize) -> [u32; IDENTIFIERS] {
+    let mut ids = [0u32; IDENTIFIERS];
+    let mut i: usize = 0;
+    while i < IDENTIFIERS {
+        ids[i] = identifier(line, plus(from, i));
+        i += 1;
     }
-    Ids { len, list }
-}
-
-pub(crate) fn byte(x: usize) -> u8 {
-    (x % 256) as u8
-}
-
-pub(crate) fn front(s: &[u8], k: usize) -> &[u8] {
-    if k <= s.len() { &s[..k] } else { s }
+    ids
 }
 
 pub(crate) fn first(s: &[u32], k: usize) -> &[u32] {

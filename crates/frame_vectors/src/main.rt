@@ -6,64 +6,67 @@
 mod line;
 mod show;
 
+use crate::line::count;
+use crate::line::small;
+use line_fields::line::field;
+use line_fields::line::line_at;
+use parts::part;
+use parts::plus;
+
 fn main() {
     let mut text = io::large_buffer();
     let len = io::read_full(0, &mut text);
-    all(&text[..len]);
+    all(part(&text, 0, len));
 }
 
 fn all(text: &[u8]) {
     let mut at: usize = 0;
-    while at < text.len() {
-        let end = line::end(text, at);
-        one(&text[at..end]);
-        at = end + 1;
-    }
-}
-
-fn one(text: &[u8]) {
-    let letter = line::letter(text);
-    match letter {
-        b'r' => {
-            let n = line::decimal_at(text, 2);
-            let burst = line::hex(text, n.next);
-            let bytes = burst.bytes;
-            show::reading(n.value, line::front(&bytes, burst.len));
+    let mut k: usize = 0;
+    while k < text.len() {
+        k += 1;
+        if text.len() <= at {
+            return;
         }
-        b'w' => written(text),
-        b't' => two(text),
-        _ => show::text_line(text),
+        let line = line_at(text, at);
+        one(line);
+        at = plus(plus(at, line.len()), 1);
     }
 }
 
-fn written(text: &[u8]) {
-    let n = line::decimal_at(text, 2);
-    let kind = line::decimal_at(text, n.next);
-    let room = line::decimal_at(text, kind.next);
-    let ids = line::ids_at(text, room.next);
-    let list = ids.list;
+fn one(line: &[u8]) {
+    match line::letter(line) {
+        b'r' => reads(line),
+        b'w' => writes(line),
+        b't' => writes_two(line),
+        _ => show::text_line(line),
+    }
+}
+
+fn reads(line: &[u8]) {
+    let digits = field(line, 2);
+    let bytes = line::hex(digits);
+    show::reading(count(line, 1), part(&bytes, 0, digits.len() / 2));
+}
+
+fn writes(line: &[u8]) {
+    let ids = line::ids_from(line, 4);
     let mut output = [0xeeu8; line::BYTES];
     show::written(
-        n.value,
-        line::byte(kind.value),
-        line::first(&list, ids.len),
-        line::room(&mut output, room.value),
+        count(line, 1),
+        small(line, 2),
+        line::first(&ids, line::behind_fields(line, 4)),
+        line::room(&mut output, count(line, 3)),
     );
 }
 
-fn two(text: &[u8]) {
-    let n = line::decimal_at(text, 2);
-    let kind = line::decimal_at(text, n.next);
-    let next = line::decimal_at(text, kind.next);
-    let room = line::decimal_at(text, next.next);
-    let ids = line::ids_at(text, room.next);
-    let list = ids.list;
+fn writes_two(line: &[u8]) {
+    let ids = line::ids_from(line, 5);
     let mut output = [0xeeu8; line::BYTES];
     show::two(
-        line::byte(kind.value),
-        line::byte(next.value),
-        line::byte(n.value),
-        line::first(&list, ids.len),
-        line::room(&mut output, room.value),
+        small(line, 2),
+        small(line, 3),
+        small(line, 1),
+        line::first(&ids, line::behind_fields(line, 5)),
+        line::room(&mut output, count(line, 4)),
     );
 }

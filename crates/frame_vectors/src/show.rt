@@ -1,93 +1,77 @@
 // What a call answers, a line each.
-use limits::MOST_BASES;
+use libc::STDOUT_FILENO;
+use message_text::say::each_identifier;
+use output::number;
+use output::text;
+use output::with_numbers;
 use reader::Reading;
 use writer::Written;
 
 pub(crate) fn text_line(s: &[u8]) {
-    io::write_all(1, s);
-    line_end();
+    text(s);
+    text(b"\n");
 }
 
-fn line_end() {
-    io::write_all(1, b"\n");
-}
-
-fn labelled(label: &[u8], number: u64) {
-    io::write_all(1, label);
-    io::print_decimal(1, number);
-}
-
-fn wide(x: u8) -> u64 {
-    x as u64
-}
-
-fn long(x: u32) -> u64 {
-    x as u64
+fn two_digits(b: u8) {
+    io::print_hex(STDOUT_FILENO, b as u64, 2);
 }
 
 fn hex(s: &[u8]) {
     let mut i: usize = 0;
     while i < s.len() {
-        let b = s[i];
-        io::print_hex(1, wide(b), 2);
+        two_digits(s[i]);
         i += 1;
     }
 }
 
 fn bytes(s: &[u8]) {
-    io::write_all(1, b" [");
+    text(b" [");
     hex(s);
-    io::write_all(1, b"]");
+    text(b"]");
 }
 
-fn space() {
-    io::write_all(1, b" ");
-}
-
-fn numbers(ids: [u32; MOST_BASES], count: usize) {
-    let mut i: usize = 0;
-    while i < MOST_BASES {
-        if count <= i {
-            return;
+// A message by its kind, its place and its body, or its number.
+fn message(reading: Reading, body: &[u8]) {
+    match reading {
+        Reading::Message { kind, count, start } => {
+            with_numbers(b" kind # at #", [kind as usize, start, 0]);
+            each_identifier(decoding::identifiers(body), count);
         }
-        space();
-        io::print_decimal(1, long(ids[i]));
-        i += 1;
+        Reading::Refused(r) => with_numbers(b" refused #", [r as usize, 0, 0]),
     }
 }
 
 // The number of the check, the body, and the reading, of a burst in a net of n bases.
 pub(crate) fn reading(n: usize, burst: &[u8]) {
-    let number = reader::check(n, burst);
+    number(reader::check(n, burst) as usize);
     let body = stretch::body(n, burst);
-    io::print_decimal(1, wide(number));
     bytes(body);
-    match reader::read(n, burst) {
-        Reading::Message { kind, count, start } => {
-            labelled(b" kind ", wide(kind));
-            labelled(b" at ", start as u64);
-            numbers(decoding::identifiers(body), count);
-        }
-        Reading::Refused(r) => labelled(b" refused ", wide(r)),
+    message(reader::read(n, burst), body);
+    text(b"\n");
+}
+
+fn length(written: Written) {
+    match written {
+        Written::Length(length) => with_numbers(b"length #", [length, 0, 0]),
+        Written::Refused(r) => with_numbers(b"refused #", [r as usize, 0, 0]),
     }
-    line_end();
+}
+
+// The output after a call.
+fn output_line(output: &[u8]) {
+    bytes(output);
+    text(b"\n");
 }
 
 // The answer of a write, and the output after it.
 pub(crate) fn written(n: usize, kind: u8, ids: &[u32], output: &mut [u8]) {
-    match writer::write(n, kind, ids, output) {
-        Written::Length(length) => labelled(b"length ", length as u64),
-        Written::Refused(r) => labelled(b"refused ", wide(r)),
-    }
-    bytes(output);
-    line_end();
+    length(writer::write(n, kind, ids, output));
+    output_line(output);
 }
 
 // The lengths of two frames, and the output after them.
 pub(crate) fn two(kind: u8, next: u8, n: u8, ids: &[u32], output: &mut [u8]) {
     let lengths = two_frames::put_two(kind, next, n, ids, output);
-    labelled(b"lengths ", lengths.front as u64);
-    labelled(b" ", lengths.next as u64);
-    bytes(output);
-    line_end();
+    with_numbers(b"lengths # #", [lengths.front, lengths.next, 0]);
+    output_line(output);
 }

@@ -1,11 +1,13 @@
 // What a program is called with.
+use libc::STDERR_FILENO;
+use libc::STDOUT_FILENO;
 use text::word::Word;
 use text::word::word_at;
 
 const HELP: usize = 6;
 
 // Whether the one argument is `--help`.
-pub fn asks_help() -> bool {
+fn asks_help() -> bool {
     if os::arg_count() != 2 {
         return false;
     }
@@ -16,5 +18,19 @@ pub fn asks_help() -> bool {
     if let Word::Past(_) = word_at(&word, 0, b"--help") {
         return true;
     }
+    false
+}
+
+// Whether a program is called with no argument. Where it is called for help its usage is printed, and with anything else it is said that
+// none is taken.
+pub fn no_argument(usage: &[u8], none_taken: &[u8]) -> bool {
+    if asks_help() {
+        io::write_all(STDOUT_FILENO, usage);
+        return false;
+    }
+    if os::arg_count() < 2 {
+        return true;
+    }
+    io::write_all(STDERR_FILENO, none_taken);
     false
 }

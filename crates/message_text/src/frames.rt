@@ -1,6 +1,7 @@
 // The frames that a call broadcast.
 use crate::say;
 use c_answers::CallAnswer;
+use output::with_numbers;
 use parts::part;
 use parts::plus;
 
@@ -17,9 +18,7 @@ fn say_broadcast(b: u8, n: u8, number: usize, frame: &[u8]) {
     if frame.len() == 0 {
         return;
     }
-    say::base(b, b" broadcasts ");
-    output::number(number);
-    output::text(b": ");
+    with_numbers(b"  base # broadcasts #: ", [b as usize, number, 0]);
     say::message(n, frame);
     output::text(b"\n");
 }

@@ -6,16 +6,15 @@ use frame::kind::VERIFY;
 use limits::MOST_BASES;
 use output::number;
 use output::text;
+use output::with_numbers;
 
 fn identifier(g: u32) {
-    text(b" ");
-    number(g as usize);
+    with_numbers(b" #", [g as usize, 0, 0]);
 }
 
 // `  base B` and words.
 pub fn base(b: u8, words: &[u8]) {
-    text(b"  base ");
-    number(b as usize);
+    with_numbers(b"  base #", [b as usize, 0, 0]);
     text(words);
 }
 
@@ -26,15 +25,6 @@ pub fn byte_count(count: usize) {
         return text(b" byte");
     }
     text(b" bytes")
-}
-
-// A number, how many are needed, and words.
-pub fn needed(v: usize, asked: usize, words: &[u8]) {
-    number(v);
-    text(b", ");
-    number(asked);
-    text(b" needed");
-    text(words);
 }
 
 // The first count identifiers, each behind a blank.

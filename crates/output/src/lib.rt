@@ -1,5 +1,8 @@
 // Standard output, written in pieces as they come.
 use libc::STDOUT_FILENO;
+use parts::between;
+use parts::part;
+use parts::plus;
 use parts::prints;
 
 pub fn text(words: &[u8]) {
@@ -8,6 +11,35 @@ pub fn text(words: &[u8]) {
 
 pub fn number(v: usize) {
     io::print_decimal(STDOUT_FILENO, v as u64);
+}
+
+// The place of the next `#` from a place on, or one past the words.
+fn sign_from(words: &[u8], from: usize) -> usize {
+    let mut i = from;
+    while i < words.len() {
+        if words[i] == b'#' {
+            return i;
+        }
+        i += 1;
+    }
+    i
+}
+
+// Words, with a number for each `#`: the first numbers for as many as there are.
+pub fn with_numbers(words: &[u8], numbers: [usize; 3]) {
+    let mut from: usize = 0;
+    let mut k: usize = 0;
+    while k < 3 {
+        let sign = sign_from(words, from);
+        text(part(words, from, between(from, plus(sign, 1))));
+        if words.len() <= sign {
+            return;
+        }
+        number(numbers[k]);
+        from = plus(sign, 1);
+        k += 1;
+    }
+    text(part(words, from, words.len()));
 }
 
 fn plain_byte(b: u8) {

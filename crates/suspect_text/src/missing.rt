@@ -1,12 +1,12 @@
 // The Verifies that a short sum lacks where no pair is suspect: every link then holds those of all the others, and may lack that of the
 // identifier which it has announced itself.
-use crate::links::link_at;
 use crate::pairs::NAMED;
 use crate::pairs::lacking;
 use crate::pairs::lacks;
 use crate::pairs::more;
 use crate::pairs::separate;
 use certified::link_count;
+use numbering::link_at;
 use output::text;
 use parts::plus;
 use protocol::Base;

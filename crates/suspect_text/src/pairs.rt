@@ -1,12 +1,13 @@
 // The suspect pairs by their identifiers, and what makes each suspect: a link that lacks a Verify of the other.
-use crate::links::far_end;
-use crate::links::link_at;
 use certified::link_count;
 use held::has_announce;
 use held_lists::holds_verify;
 use limits::MOST_FAULTY;
-use output::number;
+use limits::MOST_LINKS;
+use numbering::base_at;
+use numbering::link_at;
 use output::text;
+use output::with_numbers;
 use parts::plus;
 use protocol::Base;
 use protocol::Link;
@@ -22,14 +23,20 @@ pub(crate) fn lacks(link: Link, g: u32) -> bool {
     false
 }
 
+// The base at the end of that link of base b.
+fn far_end(b: u8, number: usize) -> usize {
+    if MOST_LINKS < number {
+        return 0;
+    }
+    base_at(b, number as u8)
+}
+
 // `link 1 from base 2 lacks Verify 120`
 pub(crate) fn lacking(b: u8, i: usize, g: u32) {
-    text(b"link ");
-    number(i);
-    text(b" from base ");
-    number(far_end(b, i));
-    text(b" lacks Verify ");
-    number(g as usize);
+    with_numbers(
+        b"link # from base # lacks Verify #",
+        [i, far_end(b, i), g as usize],
+    );
 }
 
 pub(crate) fn separate(named: usize) {
@@ -41,10 +48,7 @@ pub(crate) fn separate(named: usize) {
 // `310 and 120 (`, behind so many pairs
 fn pair(named: usize, g: u32, h: u32) {
     separate(named);
-    number(g as usize);
-    text(b" and ");
-    number(h as usize);
-    text(b" (");
+    with_numbers(b"# and # (", [g as usize, h as usize, 0]);
 }
 
 // The own identifier and that of a link: only the other's link is looked at. Answers how many pairs there are by now.
@@ -126,9 +130,7 @@ fn pairs(b: u8, base: Base) -> usize {
 // How many there are besides those that are named.
 pub(crate) fn more(named: usize) {
     if NAMED < named {
-        text(b"; and ");
-        number(named - NAMED);
-        text(b" more");
+        with_numbers(b"; and # more", [named - NAMED, 0, 0]);
     }
     text(b"\n");
 }

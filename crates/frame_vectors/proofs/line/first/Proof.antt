@@ -1,6 +1,6 @@
 -- A part within the slice has as many elements as were asked.
-use mathlib.Core.Path.{sym}
 use borrow.Author.Needs.{needs}
+use mathlib.Core.Path.{sym}
 use lib.Seq.{length-take-le}
 use Rattle.frame_vectors.proofs.line.first.Statement.{statement}
 use Rattle.frame_vectors.proofs.line.first.Tie as tie

@@ -1,6 +1,6 @@
 -- The loop stays within the slice.
-use Prim.Native.Nat.{_≤_, _-_}
 use borrow.Author.Needs.{needs}
+use Prim.Native.Nat.{_≤_, _-_}
 use lib.ListN.{length}
 use Rattle.frame_vectors.proofs.show.hex.Statement.{statement}
 use Rattle.frame_vectors.proofs.show.hex.Tie as tie
@@ -14,14 +14,11 @@ abbrev μ-loop : tie.MeasureT-loop
 loop-holds : tie.Need-loop-holds Inv-loop μ-loop
 loop-holds c = search needs
 
-shared-slice-read-b : tie.Need-shared-slice-read-b Inv-loop μ-loop
-shared-slice-read-b c = search needs
+shared-slice-read-two-digits : tie.Need-shared-slice-read-two-digits Inv-loop μ-loop
+shared-slice-read-two-digits c = search needs
 
-wide-requires : tie.Need-wide-requires Inv-loop μ-loop
-wide-requires c κs = search needs
-
-print-hex-requires : tie.Need-print-hex-requires Inv-loop μ-loop
-print-hex-requires c κs = search needs
+two-digits-requires : tie.Need-two-digits-requires Inv-loop μ-loop
+two-digits-requires c κs = search needs
 
 add-i : tie.Need-add-i Inv-loop μ-loop
 add-i c = search needs
@@ -42,9 +39,8 @@ hex-spec =
     Inv-loop
     μ-loop
     loop-holds
-    shared-slice-read-b
-    wide-requires
-    print-hex-requires
+    shared-slice-read-two-digits
+    two-digits-requires
     add-i
     loop-less
     loop-again
