@@ -11,7 +11,7 @@ use Rattle.change.specs.declared.Change.{Change}
 use Rattle.accepting.specs.declared.Accepted.{Accepted}
 use Rattle.deciding.specs.declared.Decision.{Decision}
 use Rattle.broadcasting.specs.Broadcasting.{behindStart}
-use Rattle.settling.specs.Settling.{responseFrames, responseOutcome}
+use Rattle.responding.specs.Responding.{responseFrames, responseOutcome}
 pub mod Laws
 
 -- "Announce and Verify of its own identifier, in that order", where there is room for both; else nothing

@@ -6,7 +6,7 @@ use deciding::Decision;
 use frame::kind::ANNOUNCE;
 use frame::kind::VERIFY;
 use limits::MOST_BASES;
-use settling::respond;
+use responding::respond;
 use two_frames::TwoLengths;
 use two_frames::put_two;
 ghost use mathlib.Core.Path.{_≡_};

@@ -25,7 +25,7 @@ use Rattle.change.specs.declared.Change.{Change}
 use Rattle.accepting.specs.declared.Accepted.{Accepted}
 use Rattle.deciding.specs.declared.Decision.{Decision}
 use Rattle.broadcasting.specs.Broadcasting.{behindStart}
-use Rattle.settling.specs.Settling.{responseChange}
+use Rattle.responding.specs.Responding.{responseChange}
 use Rattle.starting.specs.Starting.{startFrames, startLength, firstChange}
 
 -- ---- what `put_two` puts

@@ -24,9 +24,11 @@ use Rattle.change.specs.Heard.{MessageIn, messageIn}
 use Rattle.accepting.specs.declared.Accepted.{Accepted}
 use Rattle.deciding.specs.declared.Decision.{Decision}
 use Rattle.deciding.specs.Deciding.{runsOn, decisionOf}
-use Rattle.settling.specs.Settling.{Place, acceptedAt, decidedAt, responseFrames, responseOutcome, responseChange, decidedBase}
-use Rattle.settling.specs.Settling.Laws.{DecidedAs, discarded-by-link, accepted-by-link, link-kept}
-use Rattle.settling.specs.Settling.Frames.{said-does, said-room}
+use Rattle.settling.specs.Settling.{acceptedAt, decidedAt}
+use Rattle.responding.specs.Responding.{responseFrames, responseOutcome, responseChange}
+use Rattle.stepping.specs.Stepping.Decided.{Place, decidedBase}
+use Rattle.stepping.specs.Stepping.Decided.Laws.{DecidedAs, discarded-by-link, accepted-by-link, link-kept}
+use Rattle.stepping.specs.Stepping.Decided.Frames.{said-does, said-room}
 
 module _ (b : Base) (i kind : ℕ) (ids output : List ℕ)
     (P : Place b i) (M : MessageIn (b .n) kind ids) (z : length ids ≡ mostBases) (a : Accepted) (D : Decision)

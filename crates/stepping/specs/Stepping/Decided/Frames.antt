@@ -29,8 +29,8 @@ use Rattle.change.specs.Heard.{messageIn}
 use Rattle.deciding.specs.declared.Decision.{Decision}
 use Rattle.broadcasting.specs.Broadcasting.{frameIn, lastFrame, acceptedWith}
 use Rattle.broadcasting.specs.Broadcasting.Laws.{unknown-frame, fit-frame}
-use Rattle.settling.specs.Settling.{decidedBase, firstSaid, lastSaid, saidBy}
-use Rattle.settling.specs.Settling.Laws.{FirstKind}
+use Rattle.stepping.specs.Stepping.Decided.{decidedBase, firstSaid, lastSaid, saidBy}
+use Rattle.stepping.specs.Stepping.Decided.Laws.{FirstKind}
 
 pub encode-append : (a b : List Message) → encodeAll (a ++ b) ≡ encodeAll a ++ encodeAll b
 unfolding encodeAll

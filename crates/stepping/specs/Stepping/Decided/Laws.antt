@@ -32,7 +32,7 @@ use Rattle.accepting.specs.declared.Accepted.{Accepted}
 use Rattle.accepting.specs.Accepting.{unlessDiscarded, withArray, onAnnounceLink, onVerifyLink, onVectorLink, acceptedOn}
 use Rattle.deciding.specs.declared.Decision.{Decision}
 use Rattle.deciding.specs.Deciding.{runsOn, stopsWith, primeDecision, secondaryDecision, voteDecision, decisionOf}
-use Rattle.settling.specs.Settling.{decidedBase, firstSaid, lastSaid, saidBy}
+use Rattle.stepping.specs.Stepping.Decided.{decidedBase, firstSaid, lastSaid, saidBy}
 
 -- ---- what a decision does
 -- no frame before the check, or one of a kind that there is

@@ -1,5 +1,5 @@
--- `settling::said` meets its contract: a message that is discarded broadcasts nothing.
-use Rattle.settling.specs.Settling.{responseFrames, responseOutcome}
+-- `responding::said` meets its contract: a message that is discarded broadcasts nothing.
+use Rattle.responding.specs.Responding.{responseFrames, responseOutcome}
 use Rattle.frame.specs.Encoding.{over}
 use Rattle.frame.specs.Encoding.Laws.{over-nothing}
 use Rattle.lists.specs.Choice.Laws.{choose-yes, choose-no}
@@ -8,8 +8,8 @@ use mathlib.Core.List.{List}
 use mathlib.Core.Path.{sym, ap, _∙_}
 use Prim.Native.Nat.{ℕ}
 use borrow.Author.Needs.{needs}
-use Rattle.settling.proofs.said.Statement.{statement}
-use Rattle.settling.proofs.said.Tie as tie
+use Rattle.responding.proofs.said.Statement.{statement}
+use Rattle.responding.proofs.said.Tie as tie
 
 returns : tie.Need-returns
 unfolding responseFrames responseOutcome

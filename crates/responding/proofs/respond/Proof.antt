@@ -1,11 +1,11 @@
--- `settling::respond` meets its contract.
-use Rattle.settling.specs.Settling.{responseChange}
+-- `responding::respond` meets its contract.
+use Rattle.responding.specs.Responding.{responseChange}
 use Rattle.change.specs.declared.Change.{Change}
 use Rattle.protocol.specs.declared.Outcome.{Outcome}
 use mathlib.Core.Path.{ap}
 use borrow.Author.Needs.{needs}
-use Rattle.settling.proofs.respond.Statement.{statement}
-use Rattle.settling.proofs.respond.Tie as tie
+use Rattle.responding.proofs.respond.Statement.{statement}
+use Rattle.responding.proofs.respond.Tie as tie
 
 said-requires : tie.Need-said-requires
 said-requires c κs = search needs
