@@ -8,7 +8,7 @@ use c_answers::ACCEPTED;
 use c_answers::CallAnswer;
 use c_answers::REFUSED;
 use c_answers::outcome_numbers;
-use c_answers::read_numbers;
+use c_reading::read_numbers;
 use change::changed;
 use engine::changes::start;
 use frame::kind::CORRECT_FINAL;

@@ -1,4 +1,4 @@
--- `c_answers::read_numbers` meets its contract, by the case of the reading.
+-- `c_reading::read_numbers` meets its contract, by the case of the reading.
 use Prim.Native.Nat.{ℕ, _+_, _*_, _≤_}
 use mathlib.Core.List.{List}
 use mathlib.Core.Path.{_≡_, sym, ap, _∙_}
@@ -9,11 +9,11 @@ use Rattle.reader.specs.declared.Reading.{Reading}
 use Rattle.reader.specs.declared.Reading.the-variants.{Message}
 use Rattle.decoding.specs.Decoding.{idArray}
 use Rattle.reader.specs.Answers.{readingOf}
-use Rattle.c_answers.specs.Numbers.{readNumbers}
+use Rattle.c_reading.specs.ReadNumbers.{readNumbers}
 use Rattle.reader.specs.Answers.Place.{body-inside, burst-short, body-there, refused-none}
 use borrow.Author.Needs.{needs}
-use Rattle.c_answers.proofs.read_numbers.Statement.{statement}
-use Rattle.c_answers.proofs.read_numbers.Tie as tie
+use Rattle.c_reading.proofs.read_numbers.Statement.{statement}
+use Rattle.c_reading.proofs.read_numbers.Tie as tie
 
 alike : {x y : Reading} {a b : List ℕ} → x ≡ y → a ≡ b → readNumbers x a ≡ readNumbers y b
 alike p q = λ i. readNumbers (p i) (q i)
