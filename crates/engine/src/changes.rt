@@ -1,4 +1,5 @@
 // The calls, as what they change.
+use call_refusals::place_refusal;
 use change::Change;
 use change::discarded;
 use change::only_state;
@@ -9,7 +10,6 @@ use protocol::Base;
 use protocol::IDLE;
 use protocol::Outcome;
 use protocol::RUNNING;
-use soundness::refusals::place_refusal;
 use soundness::refusals::record_refusal;
 use soundness::refusals::start_refusal;
 use starting::begin;

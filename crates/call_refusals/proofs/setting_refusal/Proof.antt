@@ -1,10 +1,10 @@
--- `soundness::refusals::setting_refusal` meets its contract: the number of the sizes, and where they give none that of the identifier.
+-- `call_refusals::setting_refusal` meets its contract: the number of the sizes, and where they give none that of the identifier.
 use mathlib.Core.Path.{sym, _∙_}
 use borrow.Author.Needs.{needs}
 use Rattle.lists.specs.Choice.Laws.{first-none, first-given}
 use Rattle.protocol.specs.Sound.{settingRefusal}
-use Rattle.soundness.proofs.refusals.setting_refusal.Statement.{statement}
-use Rattle.soundness.proofs.refusals.setting_refusal.Tie as tie
+use Rattle.call_refusals.proofs.setting_refusal.Statement.{statement}
+use Rattle.call_refusals.proofs.setting_refusal.Tie as tie
 
 size-refusal-requires : tie.Need-size-refusal-requires
 size-refusal-requires c κs = search needs

@@ -1,11 +1,11 @@
--- `soundness::refusals::place_refusal` meets its contract: the record's number, then 5, then 6.
+-- `call_refusals::place_refusal` meets its contract: the record's number, then 5, then 6.
 use mathlib.Core.Path.{sym, _∙_}
 use native.Mathlib.Omega.{arith}
 use borrow.Author.Needs.{needs}
 use Rattle.protocol.specs.Steps.Refusals.{link-short, link-far, link-near, output-short, output-wide}
 use Rattle.lists.specs.Choice.Laws.{first-none, first-given}
-use Rattle.soundness.proofs.refusals.place_refusal.Statement.{statement}
-use Rattle.soundness.proofs.refusals.place_refusal.Tie as tie
+use Rattle.call_refusals.proofs.place_refusal.Statement.{statement}
+use Rattle.call_refusals.proofs.place_refusal.Tie as tie
 
 returns : tie.Need-returns
 returns c = sym (first-given _ (c .if1 .taken))
