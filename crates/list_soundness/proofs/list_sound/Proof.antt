@@ -1,11 +1,11 @@
--- `link_soundness::list_sound` meets its contract: the tests stand in the order of the definition.
+-- `list_soundness::list_sound` meets its contract: the tests stand in the order of the definition.
 use mathlib.Core.Path.{sym, _∙_}
 use borrow.Author.Tests.{not-true, not-false}
 use borrow.Author.Needs.{needs}
 use Rattle.protocol.specs.Sound.{listSound}
 use Rattle.lists.specs.Choice.Laws.{and-fails, and-goes-on}
-use Rattle.link_soundness.proofs.list_sound.Statement.{statement}
-use Rattle.link_soundness.proofs.list_sound.Tie as tie
+use Rattle.list_soundness.proofs.list_sound.Statement.{statement}
+use Rattle.list_soundness.proofs.list_sound.Tie as tie
 
 slice-aggregate-none-zero : tie.Need-slice-aggregate-none-zero
 slice-aggregate-none-zero c = search needs
