@@ -1,18 +1,18 @@
 // The figures of the checks, told on standard output beside what they are held against.
-use certified::certified_count;
-use certified::link_count;
+use certification::certified_count;
+use counted_links::link_count;
 use frame::kind::CORRECT_FINAL;
 use limits::MOST_BASES;
 use message_text::say;
 use protocol::Base;
 use protocol::PRIME;
 use protocol::SECONDARY;
+use sum_of_tallies::tally_sum;
 use suspect_text::links::link_at;
 use suspect_text::missing::missing_verifies;
 use suspect_text::pairs::suspect_pairs;
 use suspects::suspect_count;
 use tally::tally_of;
-use tally::tally_sum;
 use vectors::correct_count;
 use vectors::list_tally;
 

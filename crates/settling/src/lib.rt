@@ -2,7 +2,7 @@
 // and nothing is written. A place past the last link stands for the last.
 use accepting::Accepted;
 use accepting::accept;
-use certified::certifies;
+use certification::certifies;
 use deciding::Decision;
 use deciding::decide;
 use limits::MOST_BASES;

@@ -6,7 +6,7 @@ use crate::pairs::lacking;
 use crate::pairs::lacks;
 use crate::pairs::more;
 use crate::pairs::separate;
-use certified::link_count;
+use counted_links::link_count;
 use output::text;
 use parts::plus;
 use protocol::Base;

@@ -1,7 +1,7 @@
 // The suspect pairs by their identifiers, and what makes each suspect: a link that lacks a Verify of the other.
 use crate::links::far_end;
 use crate::links::link_at;
-use certified::link_count;
+use counted_links::link_count;
 use held::has_announce;
 use held_lists::holds_verify;
 use limits::MOST_FAULTY;

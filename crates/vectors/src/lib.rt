@@ -1,5 +1,5 @@
 // The tally of a list, and the links that hold it as Correct-Final.
-use certified::link_count;
+use counted_links::link_count;
 use counting::one;
 use held::HELD_CORRECT_FINAL;
 use held::HELD_VERIFY_FINAL;

@@ -1,4 +1,4 @@
--- `tally::verified_sum` meets its contract. Invariant: the sum is how many of the identifiers the links at the places below i hold.
+-- `sum_of_tallies::verified_sum` meets its contract. Invariant: the sum is how many of the identifiers the links at the places below i hold.
 use Prim.Native.Nat.{ℕ, _≤_, _-_, _*_}
 use mathlib.Core.Path.{_≡_, ap, _∙_}
 use native.Mathlib.Omega.{arith}
@@ -11,8 +11,8 @@ use Rattle.limits.specs.Limits.{mostBases}
 use Rattle.lists.specs.Lists.{sumOver}
 use Rattle.counting.specs.Sums.{bit}
 use Rattle.counting.specs.Sums as Sums
-use Rattle.tally.proofs.verified_sum.Statement.{statement}
-use Rattle.tally.proofs.verified_sum.Tie as tie
+use Rattle.sum_of_tallies.proofs.verified_sum.Statement.{statement}
+use Rattle.sum_of_tallies.proofs.verified_sum.Tie as tie
 
 abbrev Inv-loop : tie.InvT-loop
 Inv-loop ids count base k sum₀ i₀ sum i = (i ≤ k)

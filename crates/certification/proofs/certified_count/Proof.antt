@@ -1,9 +1,9 @@
--- `certified::certified_count` meets its contract: the length of the list, which has room.
+-- `certification::certified_count` meets its contract: the length of the list, which has room.
 use borrow.Author.Needs.{needs}
 use Rattle.protocol.specs.Record.{certified}
 use Rattle.certified.specs.Listed.{listed-count, listed-most}
-use Rattle.certified.proofs.certified_count.Statement.{statement}
-use Rattle.certified.proofs.certified_count.Tie as tie
+use Rattle.certification.proofs.certified_count.Statement.{statement}
+use Rattle.certification.proofs.certified_count.Tie as tie
 
 certified-ids-requires : tie.Need-certified-ids-requires
 certified-ids-requires c κs = search needs

@@ -1,18 +1,18 @@
--- `tally::tally_sum` meets its contract: the list that is handed on is that of the certified identifiers.
+-- `sum_of_tallies::tally_sum` meets its contract: the list that is handed on is that of the certified identifiers.
 use Prim.Native.Nat.{ℕ, _+_}
 use mathlib.Core.List.{List}
 use mathlib.Core.Path.{_≡_, sym, ap, ap₂, _∙_}
 use native.Mathlib.Omega.{arith}
 use borrow.Author.Needs.{needs}
-use Rattle.tally.proofs.Swap.{tally-by-links}
+use Rattle.sum_of_tallies.proofs.Swap.{tally-by-links}
 use Rattle.certified.specs.Listed.{listed, listed-count, listed-most}
 use Rattle.protocol.specs.Record.{linkAt, linkCount, certified}
 use Rattle.protocol.specs.Links.{holdsVerify}
 use Rattle.lists.specs.Lists.{sumOver}
 use Rattle.counting.specs.Sums.{bit}
 use Rattle.counting.specs.Sums as Sums
-use Rattle.tally.proofs.tally_sum.Statement.{statement}
-use Rattle.tally.proofs.tally_sum.Tie as tie
+use Rattle.sum_of_tallies.proofs.tally_sum.Statement.{statement}
+use Rattle.sum_of_tallies.proofs.tally_sum.Tie as tie
 
 certified-ids-requires : tie.Need-certified-ids-requires
 certified-ids-requires c κs = search needs

@@ -1,11 +1,11 @@
--- `certified::certifies` meets its contract: the identifier is looked for in the list.
+-- `certification::certifies` meets its contract: the identifier is looked for in the list.
 use mathlib.Core.Path.{ap, _∙_}
 use borrow.Author.Needs.{needs}
 use Rattle.lists.specs.Lists.{member}
 use Rattle.certified.specs.Listed.{listed}
 use Rattle.protocol.specs.Record.{certified}
-use Rattle.certified.proofs.certifies.Statement.{statement}
-use Rattle.certified.proofs.certifies.Tie as tie
+use Rattle.certification.proofs.certifies.Statement.{statement}
+use Rattle.certification.proofs.certifies.Tie as tie
 
 certified-ids-requires : tie.Need-certified-ids-requires
 certified-ids-requires c κs = search needs

@@ -1,16 +1,16 @@
--- `tally::verified_of` meets its contract. Invariant: the sum is that of the identifiers from place j on.
+-- `sum_of_tallies::verified_of` meets its contract. Invariant: the sum is that of the identifiers from place j on.
 use Prim.Native.Nat.{ℕ, _≤_, _+_}
 use mathlib.Core.Path.{_≡_, sym, ap, _∙_}
 use native.Mathlib.Omega.{arith}
 use borrow.Author.Needs.{needs}
 use lib.ListN.{length, take, drop}
 use Rattle.limits.specs.Limits.{mostBases}
-use Rattle.tally.proofs.Swap.{sum-back, sum-end}
+use Rattle.sum_of_tallies.proofs.Swap.{sum-back, sum-end}
 use Rattle.protocol.specs.Links.{holdsVerify, verifiesOf}
 use Rattle.lists.specs.Lists.{sumOver}
 use Rattle.counting.specs.Sums.{bit}
-use Rattle.tally.proofs.verified_of.Statement.{statement}
-use Rattle.tally.proofs.verified_of.Tie as tie
+use Rattle.sum_of_tallies.proofs.verified_of.Statement.{statement}
+use Rattle.sum_of_tallies.proofs.verified_of.Tie as tie
 
 abbrev Inv-loop : tie.InvT-loop
 Inv-loop count link ids held sum₀ j₀ sum j = (sum + j ≤ count) × (sum ≡ sumOver (drop j (take count ids)) (λ g. bit (holdsVerify link g)))
