@@ -1,5 +1,6 @@
 // The figures of the checks, told on standard output beside what they are held against.
 use certification::certified_count;
+use correct_finals::correct_count;
 use counted_links::link_count;
 use frame::kind::CORRECT_FINAL;
 use limits::MOST_BASES;
@@ -13,7 +14,6 @@ use suspect_text::missing::missing_verifies;
 use suspect_text::pairs::suspect_pairs;
 use suspects::suspect_count;
 use tally::tally_of;
-use vectors::correct_count;
 use vectors::list_tally;
 
 // n² - 2t

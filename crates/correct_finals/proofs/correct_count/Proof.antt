@@ -1,4 +1,4 @@
--- `vectors::correct_count` meets its contract: the links that hold Correct-Final of the list are counted one after another.
+-- `correct_finals::correct_count` meets its contract: the links that hold Correct-Final of the list are counted one after another.
 use Prim.Native.Nat.{_-_}
 use mathlib.Core.Path.{refl, ap, _∙_}
 use native.Mathlib.Omega.{arith}
@@ -8,8 +8,8 @@ use Rattle.counted_links.specs.Counted.{Counted, counted-none, counted-next, co
 use Rattle.counting.specs.Sums.{bit}
 use Rattle.protocol.specs.Record.{linkAt, correctCount}
 use Rattle.protocol.specs.Links.{holdsCorrect}
-use Rattle.vectors.proofs.correct_count.Statement.{statement}
-use Rattle.vectors.proofs.correct_count.Tie as tie
+use Rattle.correct_finals.proofs.correct_count.Statement.{statement}
+use Rattle.correct_finals.proofs.correct_count.Tie as tie
 
 abbrev Inv-loop : tie.InvT-loop
 Inv-loop v base k count₀ i₀ count i = Counted base (λ l. holdsCorrect (base .n) l (take (base .n) v)) k i count
