@@ -10,7 +10,6 @@ use c_answers::REFUSED;
 use c_answers::outcome_numbers;
 use c_reading::read_numbers;
 use change::changed;
-use engine::changes::start;
 use frame::kind::CORRECT_FINAL;
 use leader::leader_of;
 use limits::MOST_BASES;
@@ -23,6 +22,7 @@ use message_text::say;
 use protocol::Base;
 use protocol::IDLE;
 use protocol::PRIME;
+use start_call::start;
 
 fn state_word(state: u8) {
     if state == PRIME {

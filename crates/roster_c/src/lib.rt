@@ -48,7 +48,7 @@ pub extern "C" fn roster_start(base: &mut Base, out: &mut [u8]) -> CallAnswer
     ensures { λ r. ⌜ DoesAs outcomeNumbers (start (now (base .entry)) (length (now (out .entry)))) r
         (now (base .exit)) (now (out .entry)) (now (out .exit)) ⌝ }
 {
-    let started = engine::changes::start(*base, out);
+    let started = start_call::start(*base, out);
     stored(base, started)
 }
 

@@ -28,8 +28,9 @@ use Rattle.broadcasting.specs.Broadcasting.{behindStart}
 use Rattle.broadcasting.specs.Broadcasting.Laws.{rest-length}
 use Rattle.settling.specs.Settling.{withinLinks, acceptedAt, decidedAt}
 use Rattle.responding.specs.Responding.{responseFrames, responseOutcome, responseChange}
-use Rattle.starting.specs.Starting.{startFrames, startLength, firstFrames, firstChange}
-use Rattle.starting.specs.Starting.Laws.{start-long, start-fits, start-length-is, start-says}
+use Rattle.start_frames.specs.Frames.{startFrames, startLength}
+use Rattle.start_frames.specs.Frames.Laws.{start-long, start-fits, start-length-is, start-says}
+use Rattle.starting.specs.Starting.{firstFrames, firstChange}
 use Rattle.stepping.specs.Stepping.{unstoppedChange, unstoppedFrames, stepOutcome, stepBase, stepFrames, StepsAs}
 use Rattle.stepping.specs.Stepping.Decided.{Place}
 use Rattle.stepping.specs.Stepping.Decided.Response.{response-does}

@@ -21,8 +21,8 @@ use Rattle.protocol.specs.Steps.Refusals.{unless-passed, unless-refused, output
 use Rattle.change.specs.declared.Change.{Change}
 use Rattle.change.specs.Change.{changedBase, Does}
 use Rattle.two_frames.specs.declared.TwoLengths.{TwoLengths}
-use Rattle.starting.specs.Starting.{startFrames, startLength}
-use Rattle.starting.specs.Starting.Laws.{start-length-is, start-says}
+use Rattle.start_frames.specs.Frames.{startFrames, startLength}
+use Rattle.start_frames.specs.Frames.Laws.{start-length-is, start-says}
 
 module _ (b : Base) (room r : ℕ) (e : r ≡ first (recordRefusal b) (outputRefusal room)) where
   pub start-down : r ≢ 0 → start b room ≡ refuses b r

@@ -1,8 +1,8 @@
--- `starting::begin` meets its contract: both frames are put where there is room for both.
-use Rattle.starting.specs.Starting.Laws.{begin-puts}
+-- `start_frames::begin` meets its contract: both frames are put where there is room for both.
+use Rattle.start_frames.specs.Frames.Laws.{begin-puts}
 use borrow.Author.Needs.{needs}
-use Rattle.starting.proofs.begin.Statement.{statement}
-use Rattle.starting.proofs.begin.Tie as tie
+use Rattle.start_frames.proofs.begin.Statement.{statement}
+use Rattle.start_frames.proofs.begin.Tie as tie
 
 slice-aggregate-put-two : tie.Need-slice-aggregate-put-two
 slice-aggregate-put-two c = search needs

@@ -1,10 +1,10 @@
--- `engine::changes::start` meets its contract.
-use Rattle.engine.specs.Starts.{start-down, start-wide, start-idle, start-on, begins-does}
+-- `start_call::start` meets its contract.
+use Rattle.start_call.specs.Starts.{start-down, start-wide, start-idle, start-on, begins-does}
 use Rattle.change.specs.Change.Laws.{does-as, refuses-does, discards-does}
 use Rattle.protocol.specs.Steps.{withState}
 use borrow.Author.Needs.{needs}
-use Rattle.engine.proofs.changes.start.Statement.{statement}
-use Rattle.engine.proofs.changes.start.Tie as tie
+use Rattle.start_call.proofs.start.Statement.{statement}
+use Rattle.start_call.proofs.start.Tie as tie
 
 start-refusal-requires : tie.Need-start-refusal-requires
 start-refusal-requires c κs = search needs
