@@ -1,4 +1,4 @@
--- `sum_of_tallies::verified_sum` meets its contract. Invariant: the sum is how many of the identifiers the links at the places below i hold.
+-- `sum_of_tallies::verified_sum` meets its contract. Invariant: the sum is how many of the identifiers the links below place i hold.
 use Prim.Native.Nat.{ℕ, _≤_, _-_, _*_}
 use mathlib.Core.Path.{_≡_, ap, _∙_}
 use native.Mathlib.Omega.{arith}

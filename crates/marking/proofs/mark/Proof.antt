@@ -3,8 +3,8 @@ use Rattle.lists.specs.Choice.Laws.{and-fails, and-no, and-both, chosen-yes, ch
 use Rattle.node.specs.Node.Within.{is-within, below-one, above-most}
 use Rattle.node.specs.Node.{marked, markPlace, mostBroadcasts}
 use borrow.Author.Needs.{needs}
-use Rattle.marks.proofs.mark.Statement.{statement}
-use Rattle.marks.proofs.mark.Tie as tie
+use Rattle.marking.proofs.mark.Statement.{statement}
+use Rattle.marking.proofs.mark.Tie as tie
 
 returns : tie.Need-returns
 unfolding marked markPlace
