@@ -11,7 +11,7 @@ use c_answers::outcome_numbers;
 use c_reading::read_numbers;
 use change::changed;
 use frame::kind::CORRECT_FINAL;
-use leader::leader_of;
+use leader_rule::leader_of;
 use limits::MOST_BASES;
 use limits::OUTPUT_ROOM;
 use message_text::frames::Caller;

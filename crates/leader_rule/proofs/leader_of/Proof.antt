@@ -1,13 +1,13 @@
--- `leader::leader_of` meets its contract: before place i, the largest of the places from i on is known.
+-- `leader_rule::leader_of` meets its contract: before place i, the largest of the places from i on is known.
 use Prim.Native.Nat.{ℕ, _≤_}
 use mathlib.Core.Path.{_≡_, ap, _∙_}
 use native.Mathlib.Omega.{arith}
 use borrow.Author.Needs.{needs}
 use lib.ListN.{length, drop}
-use Rattle.leader.specs.Leading.{leader-none, leader-new, leader-same}
+use Rattle.leader_rule.specs.Leading.{leader-none, leader-new, leader-same}
 use Rattle.protocol.specs.Steps.{leaderOf}
-use Rattle.leader.proofs.leader_of.Statement.{statement}
-use Rattle.leader.proofs.leader_of.Tie as tie
+use Rattle.leader_rule.proofs.leader_of.Statement.{statement}
+use Rattle.leader_rule.proofs.leader_of.Tie as tie
 
 abbrev Inv-loop : tie.InvT-loop
 Inv-loop list i₀ most₀ i most = (most ≡ leaderOf (drop i (list))) × (i ≤ length (list))
