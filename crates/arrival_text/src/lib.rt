@@ -3,7 +3,7 @@
 mod reason;
 mod trailer;
 
-use c_answers::read_numbers;
+use c_reading::read_numbers;
 use cause_text::meanings::meaning;
 use frame::kind::CORRECT_FINAL;
 use frame::kind::VERIFY_FINAL;

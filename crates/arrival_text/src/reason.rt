@@ -1,5 +1,5 @@
 // Why a message is discarded.
-use certified::certifies;
+use certification::certifies;
 use frame::kind::ANNOUNCE;
 use frame::kind::CORRECT_FINAL;
 use frame::kind::VERIFY;

@@ -1,4 +1,5 @@
 // A burst arrives at a base: it is read, and the message goes to the step.
+use call_refusals::place_refusal;
 use change::Change;
 use change::refused;
 use decoding::identifiers;
@@ -6,7 +7,6 @@ use limits::IDENTIFIER_BYTES;
 use protocol::Base;
 use reader::Reading;
 use reader::read;
-use soundness::refusals::place_refusal;
 use soundness::refusals::record_refusal;
 use stepping::step;
 ghost use lib.ListN.{length};

@@ -1,19 +1,14 @@
 -- What the calls answer, as numbers. Document 01: "Its answer is accepted or discarded, with each frame's length"; "Each returns its
 -- number".
-use Prim.Native.Nat.{ℕ}
-use mathlib.Core.List.{List}
 use Rattle.protocol.specs.declared.Outcome.{Outcome}
 use Rattle.protocol.specs.declared.Outcome.the-variants.{Accepted, Discarded, Refused}
 use Rattle.protocol.specs.declared.Leader.{Leader}
 use Rattle.protocol.specs.declared.Leader.the-variants as leads
 use Rattle.writer.specs.declared.Written.{Written}
 use Rattle.writer.specs.declared.Written.the-variants as writes
-use Rattle.reader.specs.declared.Reading.{Reading}
-use Rattle.reader.specs.declared.Reading.the-variants as reads
 use Rattle.c_answers.specs.declared.CallAnswer.{CallAnswer}
 use Rattle.c_answers.specs.declared.LeaderAnswer.{LeaderAnswer}
 use Rattle.c_answers.specs.declared.WriteAnswer.{WriteAnswer}
-use Rattle.c_answers.specs.declared.ReadAnswer.{ReadAnswer}
 
 -- accepted is 1, discarded is 2, turned down is 0
 unfoldable pub outcomeNumbers : Outcome → CallAnswer
@@ -30,8 +25,3 @@ leaderNumbers (leads.Refused r) = record { outcome = 0; refusal = r; leader = 0 
 unfoldable pub writtenNumbers : Written → WriteAnswer
 writtenNumbers (writes.Length l) = record { refusal = 0; length = l }
 writtenNumbers (writes.Refused r) = record { refusal = r; length = 0 }
-
--- with the identifiers of the stretch, none of a refused burst
-unfoldable pub readNumbers : Reading → List ℕ → ReadAnswer
-readNumbers (reads.Message kind count start) ids = record { refusal = 0; kind = kind; count = count; start = start; ids = ids }
-readNumbers (reads.Refused r) ids = record { refusal = r; kind = 0; count = 0; start = 0; ids = ids }

@@ -1,16 +1,9 @@
 // What the calls answer, as numbers: a function that C calls returns no enum.
-use decoding::identifiers;
-use limits::IDENTIFIER_BYTES;
-use limits::MOST_BASES;
 use protocol::Leader;
 use protocol::Outcome;
-use reader::Reading;
-use reader::read;
 use writer::Written;
 ghost use mathlib.Core.Path.{_≡_};
-ghost use Rattle.decoding.specs.Decoding.{idArray};
-ghost use Rattle.reader.specs.Answers.{readingOf, stretch};
-ghost use Rattle.c_answers.specs.Numbers.{outcomeNumbers, leaderNumbers, writtenNumbers, readNumbers};
+ghost use Rattle.c_answers.specs.Numbers.{outcomeNumbers, leaderNumbers, writtenNumbers};
 
 // How a start or an arrival ended, and whether a base names a leader.
 pub const REFUSED: u8 = 0;
@@ -52,16 +45,6 @@ pub struct LeaderAnswer {
 pub struct WriteAnswer {
     pub refusal: u8,
     pub length: usize,
-}
-
-// Of reading a burst: the body is the count identifiers of the burst from start on, four bytes each.
-#[repr(C)]
-pub struct ReadAnswer {
-    pub refusal: u8,
-    pub kind: u8,
-    pub count: usize,
-    pub start: usize,
-    pub ids: [u32; MOST_BASES],
 }
 
 pub fn outcome_numbers(outcome: Outcome) -> CallAnswer
@@ -130,27 +113,6 @@ pub fn written_numbers(written: Written) -> WriteAnswer
         Written::Refused(number) => WriteAnswer {
             refusal: number,
             length: 0,
-        },
-    }
-}
-
-pub fn read_numbers(n: usize, burst: &[u8]) -> ReadAnswer
-    ensures { λ r. ⌜ r ≡ readNumbers (readingOf n (now (burst .entry))) (idArray (stretch n (now (burst .entry)))) ⌝ }
-{
-    match read(n, burst) {
-        Reading::Message { kind, count, start } => ReadAnswer {
-            refusal: 0,
-            kind,
-            count,
-            start,
-            ids: identifiers(&burst[start..start + IDENTIFIER_BYTES * count]),
-        },
-        Reading::Refused(number) => ReadAnswer {
-            refusal: number,
-            kind: 0,
-            count: 0,
-            start: 0,
-            ids: [0u32; MOST_BASES],
         },
     }
 }

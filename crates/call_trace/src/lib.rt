@@ -8,11 +8,10 @@ use c_answers::ACCEPTED;
 use c_answers::CallAnswer;
 use c_answers::REFUSED;
 use c_answers::outcome_numbers;
-use c_answers::read_numbers;
+use c_reading::read_numbers;
 use change::changed;
-use engine::changes::start;
 use frame::kind::CORRECT_FINAL;
-use leader::leader_of;
+use leader_rule::leader_of;
 use limits::MOST_BASES;
 use limits::OUTPUT_ROOM;
 use message_text::frames::Caller;
@@ -24,6 +23,7 @@ use output::with_numbers;
 use protocol::Base;
 use protocol::IDLE;
 use protocol::PRIME;
+use start_call::start;
 
 fn state_word(state: u8) {
     if state == PRIME {

@@ -1,6 +1,7 @@
 // The figures of the checks, told on standard output beside what they are held against.
-use certified::certified_count;
-use certified::link_count;
+use certification::certified_count;
+use correct_finals::correct_count;
+use counted_links::link_count;
 use frame::kind::CORRECT_FINAL;
 use limits::MOST_BASES;
 use message_text::say;
@@ -9,12 +10,11 @@ use output::with_numbers;
 use protocol::Base;
 use protocol::PRIME;
 use protocol::SECONDARY;
+use sum_of_tallies::tally_sum;
 use suspect_text::missing::missing_verifies;
 use suspect_text::pairs::suspect_pairs;
 use suspects::suspect_count;
 use tally::tally_of;
-use tally::tally_sum;
-use vectors::correct_count;
 use vectors::list_tally;
 
 // n² - 2t

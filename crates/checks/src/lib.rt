@@ -1,10 +1,10 @@
 // The tests that make a base stop or vote, on its record.
-use certified::certified_count;
+use certification::certified_count;
+use correct_finals::correct_count;
 use limits::MOST_BASES;
 use protocol::Base;
+use sum_of_tallies::tally_sum;
 use suspects::suspect_count;
-use tally::tally_sum;
-use vectors::correct_count;
 use vectors::list_tally;
 ghost use mathlib.Core.Path.{_≡_};
 ghost use lib.ListN.{take};

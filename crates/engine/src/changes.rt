@@ -1,46 +1,15 @@
-// The calls, as what they change.
+// The call on a message that was read, as what it changes.
+use call_refusals::place_refusal;
 use change::Change;
-use change::discarded;
-use change::only_state;
 use change::refused;
 use limits::MOST_BASES;
 use messages::message_refusal;
 use protocol::Base;
-use protocol::IDLE;
-use protocol::Outcome;
-use protocol::RUNNING;
-use soundness::refusals::place_refusal;
 use soundness::refusals::record_refusal;
-use soundness::refusals::start_refusal;
-use starting::begin;
 use stepping::step;
 ghost use lib.ListN.{length};
-ghost use Rattle.protocol.specs.Steps as Steps;
 ghost use Rattle.change.specs.Change.{Does};
 ghost use Rattle.engine.specs.Hearing.{messageArrival};
-
-// Starts an idle base: Announce and Verify of its own identifier. Turned down by 1 to 4 and 6.
-pub fn start(base: Base, out: &mut [u8]) -> Change
-    ensures { λ r. ⌜ Does base (Steps.start base (length (now (out .entry)))) r (now (out .entry)) (now (out .exit)) ⌝ }
-{
-    let turned_down = start_refusal(base, out.len());
-    if turned_down != 0 {
-        return refused(base, turned_down);
-    }
-    if base.state != IDLE {
-        return discarded(base, base.state);
-    }
-    let two = begin(base.n, base.own, out);
-    only_state(
-        base,
-        RUNNING,
-        Outcome::Accepted {
-            first: two.front,
-            second: two.next,
-            third: 0,
-        },
-    )
-}
 
 // A message that was read arrives on a link, 1 to n - 1: its kind, and its identifiers with zeros behind. Turned down by 1 to 6, and by
 // 8, 9, 11 and 12 where no reading gives such a message.

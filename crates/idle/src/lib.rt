@@ -1,11 +1,11 @@
 // The record of a base that has not started.
+use call_refusals::setting_refusal;
 use limits::LIST_ROOM;
 use limits::MOST_BASES;
 use limits::MOST_LINKS;
 use protocol::Base;
 use protocol::IDLE;
 use protocol::Link;
-use soundness::refusals::setting_refusal;
 ghost use mathlib.Core.Path.{_≡_};
 ghost use Rattle.protocol.specs.Sound.{idleBase};
 ghost use Rattle.idle.specs.Made.{madeOf};

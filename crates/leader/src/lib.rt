@@ -1,25 +1,11 @@
-// The leader: of a list, and of a base.
+// The leader that a base names.
+use leader_rule::leader_of;
 use protocol::Base;
 use protocol::Leader;
 use protocol::PRIME;
 use soundness::refusals::record_refusal;
 ghost use mathlib.Core.Path.{_≡_};
-ghost use Rattle.protocol.specs.Steps.{leaderOf, leaderAnswer};
-
-// The largest identifier of a list, 0 of an empty one.
-pub fn leader_of(list: &[u32]) -> u32
-    ensures { λ r. ⌜ r ≡ leaderOf (now (list .entry)) ⌝ }
-{
-    let mut i = list.len();
-    let mut most: u32 = 0;
-    while 0 < i {
-        i -= 1;
-        if most < list[i] {
-            most = list[i];
-        }
-    }
-    most
-}
+ghost use Rattle.protocol.specs.Steps.{leaderAnswer};
 
 // The leader that a stopped base names. Turned down by 1 to 4.
 pub fn leader(base: Base) -> Leader

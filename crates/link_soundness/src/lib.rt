@@ -1,29 +1,14 @@
 // Whether what is held of one link is sound, or nothing.
-use comparison::ascends;
 use comparison::zero_behind;
 use held::HELD_CORRECT_FINAL;
 use held::HELD_VERIFY_FINAL;
 use held::held_count;
-use limits::MOST_BASES;
+use list_soundness::list_sound;
 use membership::differ;
 use membership::none_zero;
 use protocol::Link;
 ghost use mathlib.Core.Path.{_≡_};
-ghost use Rattle.protocol.specs.Sound.{listSound, verifiesSound, heldSound, linkSound, placeSound};
-
-// n identifiers as kinds 3 and 4 demand, and zeros behind.
-pub fn list_sound(n: u8, list: [u32; MOST_BASES]) -> bool
-    ensures { λ r. ⌜ r ≡ listSound n list ⌝ }
-{
-    let count = n as usize;
-    if !none_zero(&list, count) {
-        return false;
-    }
-    if !ascends(&list, count) {
-        return false;
-    }
-    zero_behind(&list, count)
-}
+ghost use Rattle.protocol.specs.Sound.{verifiesSound, heldSound, linkSound, placeSound};
 
 fn verifies_sound(link: Link) -> bool
     ensures { λ r. ⌜ r ≡ verifiesSound link ⌝ }

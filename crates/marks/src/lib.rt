@@ -6,7 +6,7 @@ ghost use mathlib.Core.Path.{_≡_};
 ghost use Prim.Native.Nat.{suc};
 ghost use mathlib.Core.Bool.{not};
 ghost use Rattle.counting.specs.Sums.{bit, sum};
-ghost use Rattle.node.specs.Node.{heardBy, marked};
+ghost use Rattle.node.specs.Node.{heardBy};
 
 // Whether a's k-th broadcast was carried to this base.
 pub fn heard(node: Node, a: u8, k: usize) -> bool
@@ -26,28 +26,6 @@ pub fn heard(node: Node, a: u8, k: usize) -> bool
         return false;
     }
     node.heard[(from - 1) * MOST_BROADCASTS + (k - 1)] != 0
-}
-
-// a's k-th broadcast has been carried to this base.
-pub fn mark(node: Node, a: u8, k: usize) -> Node
-    ensures { λ r. ⌜ r ≡ marked node a k ⌝ }
-{
-    let from = a as usize;
-    if from < 1 {
-        return node;
-    }
-    if MOST_BASES < from {
-        return node;
-    }
-    if k < 1 {
-        return node;
-    }
-    if MOST_BROADCASTS < k {
-        return node;
-    }
-    let mut after = node;
-    after.heard[(from - 1) * MOST_BROADCASTS + (k - 1)] = 1;
-    after
 }
 
 // How many of a's first count broadcasts were not carried to this base.

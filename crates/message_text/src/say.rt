@@ -1,5 +1,5 @@
 // Pieces of the trace, written to standard output as they come.
-use c_answers::read_numbers;
+use c_reading::read_numbers;
 use frame::kind::ANNOUNCE;
 use frame::kind::CORRECT_FINAL;
 use frame::kind::VERIFY;

@@ -3,7 +3,7 @@ use decoding::identifiers;
 use limits::IDENTIFIER_BYTES;
 use limits::LONGEST_FRAME;
 use limits::MOST_BASES;
-use marks::mark;
+use marking::mark;
 use node::Frame;
 use node::Node;
 use node_calls::hear_message;

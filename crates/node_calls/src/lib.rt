@@ -40,7 +40,7 @@ pub fn start_node(node: Node) -> NodeAnswer
     ensures { λ r. ⌜ r ≡ nodeAnswer node (Steps.start (node .base) outputRoom) ⌝ }
 {
     let mut out = [0u8; OUTPUT_ROOM];
-    let change = engine::changes::start(node.base, &mut out);
+    let change = start_call::start(node.base, &mut out);
     answered(node, change, &out)
 }
 

@@ -2,8 +2,8 @@
 use certified::certified_ids;
 use comparison::zero_behind;
 use limits::MOST_LINKS;
-use link_soundness::list_sound;
 use link_soundness::place_sound;
+use list_soundness::list_sound;
 use membership::differ;
 use protocol::Base;
 use protocol::IDLE;

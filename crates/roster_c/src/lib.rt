@@ -1,11 +1,11 @@
 // The calls on a base as C sees them (include/roster.h): records lent by pointer, slices as pointer and length, answers as numbers.
 use c_answers::CallAnswer;
 use c_answers::LeaderAnswer;
-use c_answers::ReadAnswer;
 use c_answers::WriteAnswer;
 use c_answers::leader_numbers;
-use c_answers::read_numbers;
 use c_answers::written_numbers;
+use c_reading::ReadAnswer;
+use c_reading::read_numbers;
 use idle::Made;
 use protocol::Base;
 use storing::stored;
@@ -18,7 +18,8 @@ ghost use Rattle.protocol.specs.Steps.{arrival, start, leaderAnswer};
 ghost use Rattle.change.specs.Change.{DoesAs};
 ghost use Rattle.idle.specs.Made.{madeOf};
 ghost use Rattle.roster_c.specs.Version.{version};
-ghost use Rattle.c_answers.specs.Numbers.{outcomeNumbers, leaderNumbers, writtenNumbers, readNumbers};
+ghost use Rattle.c_answers.specs.Numbers.{outcomeNumbers, leaderNumbers, writtenNumbers};
+ghost use Rattle.c_reading.specs.ReadNumbers.{readNumbers};
 
 // ROSTER_VERSION of include/roster.h.
 const VERSION: u32 = 1;
@@ -37,7 +38,7 @@ pub extern "C" fn roster_start(base: &mut Base, out: &mut [u8]) -> CallAnswer
     ensures { λ r. ⌜ DoesAs outcomeNumbers (start (now (base .entry)) (length (now (out .entry)))) r
         (now (base .exit)) (now (out .entry)) (now (out .exit)) ⌝ }
 {
-    let started = engine::changes::start(*base, out);
+    let started = start_call::start(*base, out);
     stored(base, started)
 }
 

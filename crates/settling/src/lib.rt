@@ -1,10 +1,8 @@
-// A message at a base that runs, or that has just started: whether it is accepted, what the base then decides, what it broadcasts. The
-// record is read before anything is written. A place past the last link stands for the last.
+// A message at a base that runs, or that has just started: whether it is accepted, and what the base then decides. The record is read here,
+// and nothing is written. A place past the last link stands for the last.
 use accepting::Accepted;
 use accepting::accept;
-use broadcasting::broadcast;
-use certified::certifies;
-use change::Change;
+use certification::certifies;
 use deciding::Decision;
 use deciding::decide;
 use limits::MOST_BASES;
@@ -12,14 +10,11 @@ use limits::MOST_LINKS;
 use lists::least;
 use protocol::Base;
 use protocol::Link;
-use protocol::Outcome;
 use protocol::RUNNING;
 ghost use mathlib.Core.Path.{_≡_};
-ghost use lib.ListN.{length};
-ghost use Rattle.frame.specs.Encoding.{over};
 ghost use Rattle.protocol.specs.Steps.{withLink};
 ghost use Rattle.protocol.specs.Steps.Cases.{begun};
-ghost use Rattle.settling.specs.Settling.{withinLinks, acceptedAt, decidedAt, responseFrames, responseOutcome, responseChange};
+ghost use Rattle.settling.specs.Settling.{withinLinks, acceptedAt, decidedAt};
 
 // Whether a message is accepted at a link, and the link then.
 pub fn accepted_at(base: Base, i: usize, kind: u8, ids: [u32; MOST_BASES]) -> Accepted
@@ -63,50 +58,4 @@ pub fn decided(
     }
     let link = accepted.link;
     decide(running_with(base, i, link), kind, ids)
-}
-
-fn said(
-    n: u8,
-    accepted: bool,
-    decision: Decision,
-    ids: [u32; MOST_BASES],
-    out: &mut [u8],
-) -> Outcome
-    ensures { λ r. ⌜ (r ≡ responseOutcome n accepted decision ids (length (now (out .entry))))
-        × (now (out .exit) ≡ over (responseFrames n accepted decision ids (length (now (out .entry)))) (now (out .entry))) ⌝ }
-{
-    if !accepted {
-        return Outcome::Discarded {
-            first: 0,
-            second: 0,
-            third: 0,
-        };
-    }
-    let list = decision.final_list;
-    broadcast(n, decision.first, ids, decision.stops, list, out)
-}
-
-// The frames that the base then broadcasts, at the front of the output, and what is to be set in its record.
-pub fn respond(
-    n: u8,
-    i: usize,
-    accepted: Accepted,
-    decision: Decision,
-    ids: [u32; MOST_BASES],
-    out: &mut [u8],
-) -> Change
-    ensures { λ r. ⌜ (r ≡ responseChange n i accepted decision ids (length (now (out .entry))))
-        × (now (out .exit) ≡ over (responseFrames n (accepted .accepted) decision ids (length (now (out .entry)))) (now (out .entry))) ⌝ }
-{
-    let link = accepted.link;
-    let list = decision.final_list;
-    let outcome = said(n, accepted.accepted, decision, ids, out);
-    Change {
-        outcome,
-        state: decision.state,
-        sent: decision.sent,
-        place: i,
-        link,
-        final_list: list,
-    }
 }

@@ -1,2 +1,2 @@
-// Numbers 1 to 6 of the calls.
+// Numbers 1 to 4 of a record, and 6 of a start.
 pub mod refusals;

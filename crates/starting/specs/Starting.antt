@@ -1,26 +1,15 @@
--- The frames of a start, as bytes, by what an output has room for; and a first message behind them.
-use Prim.Native.Nat.{ℕ, _*_, _-_}
+-- A first message, behind the frames of a start.
+use Prim.Native.Nat.{ℕ, _-_}
 use mathlib.Core.Bool.{Bool}
-use mathlib.Core.List.{List, [], _∷_, _++_}
-use lib.Dec.{leb}
+use mathlib.Core.List.{List, _++_}
 use lib.ListN.{length}
-use Rattle.limits.specs.Limits.{frameBytes}
-use Rattle.lists.specs.Choice.{choose}
-use Rattle.frame.specs.Encoding.{frameOf}
+use Rattle.start_frames.specs.Frames.{startFrames, startLength}
 use Rattle.change.specs.declared.Change.{Change}
 use Rattle.accepting.specs.declared.Accepted.{Accepted}
 use Rattle.deciding.specs.declared.Decision.{Decision}
 use Rattle.broadcasting.specs.Broadcasting.{behindStart}
-use Rattle.settling.specs.Settling.{responseFrames, responseOutcome}
+use Rattle.responding.specs.Responding.{responseFrames, responseOutcome}
 pub mod Laws
-
--- "Announce and Verify of its own identifier, in that order", where there is room for both; else nothing
-unfoldable pub startFrames : ℕ → ℕ → List ℕ
-startFrames own room = choose (leb (2 * frameBytes 1) room) (frameOf 1 (own ∷ []) ++ frameOf 2 (own ∷ [])) []
-
--- the length of each
-unfoldable pub startLength : ℕ → ℕ
-startLength room = choose (leb (2 * frameBytes 1) room) (frameBytes 1) 0
 
 -- "An idle base starts first": the frames of the start, and behind them those of the message, in the room that is left
 unfoldable pub firstFrames : ℕ → ℕ → Bool → Decision → List ℕ → ℕ → List ℕ

@@ -1,5 +1,5 @@
 // The state of a base in words, and the list that it has stopped with.
-use leader::leader_of;
+use leader_rule::leader_of;
 use limits::MOST_BASES;
 use lists::least;
 use print::has_room;

@@ -5,7 +5,7 @@ use crate::pairs::lacking;
 use crate::pairs::lacks;
 use crate::pairs::more;
 use crate::pairs::separate;
-use certified::link_count;
+use counted_links::link_count;
 use numbering::link_at;
 use output::text;
 use parts::plus;

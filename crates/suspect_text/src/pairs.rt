@@ -1,5 +1,5 @@
 // The suspect pairs by their identifiers, and what makes each suspect: a link that lacks a Verify of the other.
-use certified::link_count;
+use counted_links::link_count;
 use held::has_announce;
 use held_lists::holds_verify;
 use limits::MOST_FAULTY;

@@ -1,5 +1,5 @@
 // Suspect pairs of certified identifiers.
-use certified::link_count;
+use counted_links::link_count;
 use counting::one;
 use held::has_announce;
 use held_lists::holds_verify;

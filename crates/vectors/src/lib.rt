@@ -1,5 +1,5 @@
-// The tally of a list, and the links that hold it as Correct-Final.
-use certified::link_count;
+// The tally of a list.
+use counted_links::link_count;
 use counting::one;
 use held::HELD_CORRECT_FINAL;
 use held::HELD_VERIFY_FINAL;
@@ -10,7 +10,7 @@ ghost use Prim.Native.Nat.{_≤_};
 ghost use mathlib.Core.Path.{_≡_};
 ghost use lib.ListN.{take};
 ghost use Rattle.limits.specs.Limits.{mostLinks};
-ghost use Rattle.protocol.specs.Record.{listTally, correctCount};
+ghost use Rattle.protocol.specs.Record.{listTally};
 
 // The number of links that hold a vector message with the first n identifiers of v: a link holds one, of kind 3 or 4.
 pub fn list_tally(base: Base, v: [u32; MOST_BASES]) -> usize
@@ -24,21 +24,6 @@ pub fn list_tally(base: Base, v: [u32; MOST_BASES]) -> usize
         let correct = one(holds_vector(base.n, HELD_CORRECT_FINAL, link, v));
         let verify = one(holds_vector(base.n, HELD_VERIFY_FINAL, link, v));
         count += correct + verify;
-        i += 1;
-    }
-    count
-}
-
-// The number of links that hold Correct-Final of them.
-pub fn correct_count(base: Base, v: [u32; MOST_BASES]) -> usize
-    ensures { λ r. ⌜ (r ≡ correctCount base (take (base .n) v)) × (r ≤ mostLinks) ⌝ }
-{
-    let k = link_count(base.n);
-    let mut count: usize = 0;
-    let mut i: usize = 0;
-    while i < k {
-        let link = base.links[i];
-        count += one(holds_vector(base.n, HELD_CORRECT_FINAL, link, v));
         i += 1;
     }
     count

@@ -27,10 +27,10 @@ use denote.Triple.Table.{cited}
 use Rattle.protocol.specs.Steps.{start}
 use Rattle.change.specs.Change.{changedBase, Does}
 use Rattle.c_answers.specs.Numbers.{outcomeNumbers}
-use Rattle.engine.proofs.changes.start as call
-use Rattle.engine.proofs.changes.start.Symbol as call-def
-use Rattle.engine.proofs.changes.start.Symbol.{name as #engine·changes·start}
-use Rattle.engine.proofs.changes.start.Met as call-thm
+use Rattle.start_call.proofs.start as call
+use Rattle.start_call.proofs.start.Symbol as call-def
+use Rattle.start_call.proofs.start.Symbol.{name as #start-call·start}
+use Rattle.start_call.proofs.start.Met as call-thm
 use Rattle.storing.proofs.stored as stored
 use Rattle.storing.proofs.stored.Symbol as stored-def
 use Rattle.storing.proofs.stored.Symbol.{name as #storing·stored}
@@ -46,7 +46,7 @@ use Rattle.roster_c.proofs.roster_start.Code as code
 
 module _ {M : Type 1} (𝓤 : URA M) (H : Heap 𝓤) (A : Atoms 𝓤) (W : Given 𝓤 H A) (at : Memory → SProp 𝓤) (run : Routine → Fun 𝓤)
     (C : Calls 𝓤 H) (Λ : Loops 𝓤 H) (fm : FmC 𝓤 H (W .laws) C)
-    (call-known : Triple 𝓤 (C #engine·changes·start) (triple 𝓤 H A call.ended (call.clauses 𝓤 H A at run)))
+    (call-known : Triple 𝓤 (C #start-call·start) (triple 𝓤 H A call.ended (call.clauses 𝓤 H A at run)))
     (stored-known : Triple 𝓤 (C #storing·stored) (triple 𝓤 H A stored.ended (stored.clauses 𝓤 H A at run))) where
   meets : Meets 𝓤 H A f.signature (WpFn 𝓤 H C Λ code.function) (f.spec 𝓤 H A at run)
   meets = meets-by 𝓤 H A W f.ended (f.clauses 𝓤 H A at run) (WpFn 𝓤 H C Λ code.function) (λ κs. (ptr-vals, (slice-vals, tt)))
@@ -91,5 +91,5 @@ pub roster-start-spec : {M : Type 1} → stated.statement M
 unfolding code.routine
 roster-start-spec 𝓤 H 𝓜 𝓖 𝓡 = proved 𝓤 H 𝓜 𝓖 𝓡 code.env #roster-start code.function (code.unfolded 𝓤 H 𝓜 𝓡) _
     (λ fm. meets 𝓤 H (𝓖 .A) (givenOf 𝓤 H 𝓜 𝓖) (𝓜 .mem) (𝓡 .run) (tables 𝓤 H 𝓜 𝓡 code.env .C) (tables 𝓤 H 𝓜 𝓡 code.env .Λ) fm
-    (cited 𝓤 H _ 𝓜 𝓡 code.env #engine·changes·start call-def.routine code.calls-engine·changes·start (call-thm.met 𝓤 H 𝓜 𝓖 𝓡))
+    (cited 𝓤 H _ 𝓜 𝓡 code.env #start-call·start call-def.routine code.calls-start-call·start (call-thm.met 𝓤 H 𝓜 𝓖 𝓡))
     (cited 𝓤 H _ 𝓜 𝓡 code.env #storing·stored stored-def.routine code.calls-storing·stored (stored-thm.met 𝓤 H 𝓜 𝓖 𝓡)))

@@ -1,7 +1,9 @@
 -- `starting::respond_first` meets its contract: the message's frames go into the rest of the output, behind those of the start.
-use Rattle.starting.specs.Starting.{startFrames, startLength, firstFrames}
-use Rattle.starting.specs.Starting.Laws.{start-long, start-fits, start-short, first-change}
-use Rattle.settling.specs.Settling.{responseFrames}
+use Rattle.starting.specs.Starting.{firstFrames}
+use Rattle.starting.specs.Starting.Laws.{first-change}
+use Rattle.start_frames.specs.Frames.{startFrames, startLength}
+use Rattle.start_frames.specs.Frames.Laws.{start-long, start-fits, start-short}
+use Rattle.responding.specs.Responding.{responseFrames}
 use Rattle.broadcasting.specs.Broadcasting.Laws.{rest-length}
 use Rattle.two_frames.specs.declared.TwoLengths.{TwoLengths}
 use Rattle.frame.specs.Encoding.Laws.{over-rest}

@@ -26,11 +26,14 @@ use Rattle.accepting.specs.declared.Accepted.{Accepted}
 use Rattle.deciding.specs.declared.Decision.{Decision}
 use Rattle.broadcasting.specs.Broadcasting.{behindStart}
 use Rattle.broadcasting.specs.Broadcasting.Laws.{rest-length}
-use Rattle.settling.specs.Settling.{Place, withinLinks, acceptedAt, decidedAt, responseFrames, responseOutcome, responseChange}
-use Rattle.settling.specs.Settling.Response.{response-does}
-use Rattle.starting.specs.Starting.{startFrames, startLength, firstFrames, firstChange}
-use Rattle.starting.specs.Starting.Laws.{start-long, start-fits, start-length-is, start-says}
+use Rattle.settling.specs.Settling.{withinLinks, acceptedAt, decidedAt}
+use Rattle.responding.specs.Responding.{responseFrames, responseOutcome, responseChange}
+use Rattle.start_frames.specs.Frames.{startFrames, startLength}
+use Rattle.start_frames.specs.Frames.Laws.{start-long, start-fits, start-length-is, start-says}
+use Rattle.starting.specs.Starting.{firstFrames, firstChange}
 use Rattle.stepping.specs.Stepping.{unstoppedChange, unstoppedFrames, stepOutcome, stepBase, stepFrames, StepsAs}
+use Rattle.stepping.specs.Stepping.Decided.{Place}
+use Rattle.stepping.specs.Stepping.Decided.Response.{response-does}
 use Rattle.stepping.specs.Stepping.First.{Ready, ready-within, message-room, arrival-running, behind-does}
 
 module _ (b : Base) (i kind : ℕ) (ids output : List ℕ) (R : Ready b i) (M : MessageIn (b .n) kind ids) (z : length ids ≡ mostBases)

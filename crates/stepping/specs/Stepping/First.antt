@@ -31,7 +31,7 @@ use Rattle.change.specs.Heard.{messageIn}
 use Rattle.broadcasting.specs.Broadcasting.{behindStart}
 use Rattle.settling.specs.Settling.{withinLinks}
 use Rattle.settling.specs.Settling.Places.{within-same}
-use Rattle.settling.specs.Settling.Frames.{encode-append}
+use Rattle.stepping.specs.Stepping.Decided.Frames.{encode-append}
 
 -- a record that is not turned down, and one of its links
 pub record Ready (b : Base) (i : ℕ) : Type 0 where

@@ -14,7 +14,8 @@ use Rattle.change.specs.declared.Change.{Change}
 use Rattle.change.specs.Change.{changedBase, ChangeOf}
 use Rattle.accepting.specs.declared.Accepted.{Accepted}
 use Rattle.deciding.specs.declared.Decision.{Decision}
-use Rattle.settling.specs.Settling.{withinLinks, decidedAt, responseFrames, responseChange}
+use Rattle.settling.specs.Settling.{withinLinks, decidedAt}
+use Rattle.responding.specs.Responding.{responseFrames, responseChange}
 use Rattle.starting.specs.Starting.{firstFrames, firstChange}
 use Rattle.stepping.specs.Stepping.{unstoppedChange, unstoppedFrames, stepOutcome, stepBase, stepFrames, StepsAs}
 

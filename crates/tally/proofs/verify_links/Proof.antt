@@ -3,7 +3,7 @@ use Prim.Native.Nat.{_-_}
 use mathlib.Core.Path.{refl, ap, _∙_}
 use native.Mathlib.Omega.{arith}
 use borrow.Author.Needs.{needs}
-use Rattle.certified.specs.Counted.{Counted, counted-none, counted-next, counted-all}
+use Rattle.counted_links.specs.Counted.{Counted, counted-none, counted-next, counted-all}
 use Rattle.counting.specs.Sums.{bit}
 use Rattle.protocol.specs.Record.{linkAt}
 use Rattle.protocol.specs.Links.{holdsVerify}

@@ -5,7 +5,7 @@ use mathlib.Core.Path.{refl, ap, ap₂, _∙_}
 use native.Mathlib.Omega.{arith}
 use borrow.Author.Needs.{needs}
 use lib.ListN.{take}
-use Rattle.certified.specs.Counted.{Counted, counted-none, counted-next, counted-all}
+use Rattle.counted_links.specs.Counted.{Counted, counted-none, counted-next, counted-all}
 use Rattle.counting.specs.Sums.{bit}
 use Rattle.vectors.proofs.Once.{vector-once}
 use Rattle.protocol.specs.Record.{linkAt, listTally}

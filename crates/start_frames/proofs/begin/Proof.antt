@@ -1,0 +1,21 @@
+-- `start_frames::begin` meets its contract: both frames are put where there is room for both.
+use Rattle.start_frames.specs.Frames.Laws.{begin-puts}
+use borrow.Author.Needs.{needs}
+use Rattle.start_frames.proofs.begin.Statement.{statement}
+use Rattle.start_frames.proofs.begin.Tie as tie
+
+slice-aggregate-put-two : tie.Need-slice-aggregate-put-two
+slice-aggregate-put-two c = search needs
+
+put-two-requires : tie.Need-put-two-requires
+put-two-requires c κs = search needs
+
+same-length : tie.Need-same-length
+same-length c = search needs
+
+returns : tie.Need-returns
+returns c = let w = c .before .before .put-two .ensures in let a = c .before .before .before .before .before .before .args in
+    begin-puts (a .n) (a .own) (a .out .now) _ _ (w .0) (w .1)
+
+pub begin-spec : {M : Type 1} → statement M
+begin-spec = tie.close (tie.spec slice-aggregate-put-two put-two-requires same-length returns)
