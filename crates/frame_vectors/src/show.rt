@@ -58,7 +58,7 @@ fn numbers(ids: [u32; MOST_BASES], count: usize) {
 
 // The number of the check, the body, and the reading, of a burst in a net of n bases.
 pub(crate) fn reading(n: usize, burst: &[u8]) {
-    let number = reader::check(n, burst);
+    let number = bursts::check(n, burst);
     let body = stretch::body(n, burst);
     io::print_decimal(1, wide(number));
     bytes(body);

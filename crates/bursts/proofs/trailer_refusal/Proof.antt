@@ -1,4 +1,4 @@
--- `reader::trailer_refusal` meets its contract: the three checks stand in the order of the definition. After number 9 the count byte is the
+-- `bursts::trailer_refusal` meets its contract: the three checks stand in the order of the definition. After number 9 the count byte is the
 -- one expected, so the length of the kind's frame is 4 × count + 4.
 use mathlib.Core.Path.{_≡_, sym, ap, _∙_}
 use native.Mathlib.Omega.{arith}
@@ -6,8 +6,8 @@ use Rattle.lists.specs.Choice.Laws.{first-none, first-given}
 use Rattle.frame.specs.Reading.{fromEnd, kindByte, countByte, kindRefusal, trailerRefusal}
 use Rattle.frame.specs.Reading.Laws.{length-passed, kind-size}
 use borrow.Author.Needs.{needs}
-use Rattle.reader.proofs.trailer_refusal.Statement.{statement}
-use Rattle.reader.proofs.trailer_refusal.Tie as tie
+use Rattle.bursts.proofs.trailer_refusal.Statement.{statement}
+use Rattle.bursts.proofs.trailer_refusal.Tie as tie
 
 -- numbers 8 and 9 are asked of the trailer's kind and count
 of-the-trailer : (c : tie.After-kind-refusal) → let a = c .before .before .before .before .before .before .before .args in

@@ -1,4 +1,4 @@
--- `reader::body_refusal` meets its contract: the array's first identifiers are those of the burst.
+-- `bursts::body_refusal` meets its contract: the array's first identifiers are those of the burst.
 use Prim.Native.Nat.{_≤_}
 use mathlib.Core.Path.{sym, ap, ap₂, _∙_}
 use native.Mathlib.Omega.{arith}
@@ -8,8 +8,8 @@ use lib.ListN.{length, take}
 use Rattle.decoding.specs.Decoding.Laws.{array-front, length-array}
 use Rattle.decoding.specs.Decoding.{idArray}
 use Rattle.frame.specs.Reading.{listRefusal, countByte, fromEnd}
-use Rattle.reader.proofs.body_refusal.Statement.{statement}
-use Rattle.reader.proofs.body_refusal.Tie as tie
+use Rattle.bursts.proofs.body_refusal.Statement.{statement}
+use Rattle.bursts.proofs.body_refusal.Tie as tie
 
 few : (c : tie.After-identifiers) → c .before .before .wide .result ≤ length (c .identifiers .result)
 unfolding countByte fromEnd
@@ -52,7 +52,7 @@ returns c =
     let identifiers = c .before .before .identifiers in
     let s = a .burst .now in
     c .list-refusal .ensures
-    ∙ ap listRefusal (ap₂ take (wide .ensures) (identifiers .ensures ∙ ap idArray (body-in .ensures .0)) ∙ array-front s pre)
+    ∙ ap listRefusal (ap₂ take (wide .ensures) (identifiers .ensures ∙ ap idArray (body-in .ensures)) ∙ array-front s pre)
 
 pub body-refusal-spec : {M : Type 1} → statement M
 body-refusal-spec =

@@ -1,4 +1,4 @@
--- `reader::distance_refusal` meets its contract: each return is the definition at the tests that led there.
+-- `bursts::distance_refusal` meets its contract: each return is the definition at the tests that led there.
 use mathlib.Core.Path.{refl, sym, ap, _∙_}
 use mathlib.Core.Bool.{not}
 use native.Mathlib.Omega.{arith}
@@ -7,8 +7,8 @@ use lib.ListN.{length}
 use Rattle.lists.specs.Choice.Laws.{chosen-yes, chosen-no, or-first, or-second, or-neither}
 use Rattle.frame.specs.Reading.{backDistance, distanceRefusal}
 use borrow.Author.Needs.{needs}
-use Rattle.reader.proofs.distance_refusal.Statement.{statement}
-use Rattle.reader.proofs.distance_refusal.Tie as tie
+use Rattle.bursts.proofs.distance_refusal.Statement.{statement}
+use Rattle.bursts.proofs.distance_refusal.Tie as tie
 
 back-distance-requires : tie.Need-back-distance-requires
 back-distance-requires c κs = search needs

@@ -1,12 +1,12 @@
--- `reader::check` meets its contract: the checks stand in the order of the definition, and what one passes the next may ask.
+-- `bursts::check` meets its contract: the checks stand in the order of the definition, and what one passes the next may ask.
 use mathlib.Core.Path.{sym, _∙_}
 use borrow.Author.Needs.{needs}
 use Rattle.frame.specs.Reading.Laws.{passed-framed}
 use Rattle.frame.specs.Reading.{readRefusal, burstRefusal}
 use Rattle.lists.specs.Choice.Laws.{first-none, first-given}
 use Rattle.limits.specs.Refusals.Laws.{net-passed}
-use Rattle.reader.proofs.check.Statement.{statement}
-use Rattle.reader.proofs.check.Tie as tie
+use Rattle.bursts.proofs.check.Statement.{statement}
+use Rattle.bursts.proofs.check.Tie as tie
 
 net-refusal-requires : tie.Need-net-refusal-requires
 net-refusal-requires c κs = search needs

@@ -1,10 +1,10 @@
--- `reader::length_refusal` meets its contract: each return is the definition at the tests that led there.
+-- `bursts::length_refusal` meets its contract: each return is the definition at the tests that led there.
 use mathlib.Core.Path.{refl}
 use borrow.Author.Tests.{lt-ltb, le-ltb}
 use Rattle.lists.specs.Choice.Laws.{chosen-yes, chosen-no, or-first, or-second, or-neither}
 use Rattle.frame.specs.Reading.{lengthRefusal}
-use Rattle.reader.proofs.length_refusal.Statement.{statement}
-use Rattle.reader.proofs.length_refusal.Tie as tie
+use Rattle.bursts.proofs.length_refusal.Statement.{statement}
+use Rattle.bursts.proofs.length_refusal.Tie as tie
 
 returns : tie.Need-returns
 unfolding lengthRefusal

@@ -1,12 +1,12 @@
--- `reader::back_distance` meets its contract: two bytes, each below 256, make a number that fits.
+-- `bursts::back_distance` meets its contract: two bytes, each below 256, make a number that fits.
 use Prim.Native.Nat.{ℕ, _+_, _*_, _-_}
 use mathlib.Core.Path.{ap₂}
 use native.Mathlib.Omega.{arith}
 use borrow.Author.Needs.{needs}
 use lib.ListN.{length}
 use Rattle.frame.specs.Reading.{backDistance, fromEnd}
-use Rattle.reader.proofs.back_distance.Statement.{statement}
-use Rattle.reader.proofs.back_distance.Tie as tie
+use Rattle.bursts.proofs.back_distance.Statement.{statement}
+use Rattle.bursts.proofs.back_distance.Tie as tie
 
 sub-wide : tie.Need-sub-wide
 sub-wide c = search needs
