@@ -1,11 +1,11 @@
--- `hexadecimal::hex_digit` meets its contract: the tests that led to each return.
+-- `hex_bytes::hex_digit` meets its contract: the tests that led to each return.
 use native.Mathlib.Omega.{arith}
 use borrow.Author.Tests.{le-leb, lt-leb}
 use Rattle.lists.specs.Choice.{choose, and}
 use Rattle.hexadecimal.specs.Hex.{hexDigit}
 use borrow.Author.Needs.{needs}
-use Rattle.hexadecimal.proofs.hex_digit.Statement.{statement}
-use Rattle.hexadecimal.proofs.hex_digit.Tie as tie
+use Rattle.hex_bytes.proofs.hex_digit.Statement.{statement}
+use Rattle.hex_bytes.proofs.hex_digit.Tie as tie
 
 returns : tie.Need-returns
 unfolding hexDigit and choose
