@@ -6,7 +6,7 @@ use faulty_links::faulty_refusal;
 use faulty_links::is_good;
 use faulty_links::no_faulty;
 use faulty_links::with_faulty;
-use header_forms::faulty_line;
+use faulty_form::faulty_line;
 use header_forms::id_line;
 use header_forms::net_line;
 use limits::MOST_BASES;

@@ -1,6 +1,6 @@
 // What a program is called with.
-use text::word::Word;
-use text::word::word_at;
+use words::Word;
+use words::word_at;
 
 const HELP: usize = 6;
 

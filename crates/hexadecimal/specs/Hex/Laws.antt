@@ -52,7 +52,8 @@ from-pair s i k h e a =
     ap (λ (l : List ℕ). hexFrom l k i) (drop-two s i (pair-inside s i a))
     ∙ choose-no _ _ (ne-eqb (getD s i 0) 10 e) ∙ choose-yes _ _ a
 
-no-pair-ends : (a : ℕ) (rest : List ℕ) (k p : ℕ) → (a ≡ 10 → ⊥) → and (isHex a) (isHex (getD rest 0 0)) ≡ false → hexFrom (a ∷ rest) k p ≡ Bad
+no-pair-ends : (a : ℕ) (rest : List ℕ) (k p : ℕ) → (a ≡ 10 → ⊥) → and (isHex a) (isHex (getD rest 0 0)) ≡ false
+    → hexFrom (a ∷ rest) k p ≡ Bad
 unfolding hexFrom
 no-pair-ends a [] k p e q = choose-no _ _ (ne-eqb a 10 e)
 no-pair-ends a (b ∷ rest) k p e q = choose-no _ _ (ne-eqb a 10 e) ∙ choose-no _ _ q

@@ -1,6 +1,6 @@
-// Words.
+// A word at a position of a text.
 ghost use mathlib.Core.Path.{_≡_};
-ghost use Rattle.text.specs.Word.{wordAt};
+ghost use Rattle.words.specs.Word.{wordAt};
 
 // The position behind a word.
 pub enum Word {

@@ -7,10 +7,10 @@ use lib.ListN.{length, getD, drop, drop-of-length-le}
 use Rattle.lists.specs.Choice.Laws.{choose-yes, choose-no, choose-ind}
 use native.Mathlib.Omega.{arith}
 use lib.Dec.{eqb}
-use Rattle.text.specs.declared.word.Word.{Word}
-use Rattle.text.specs.declared.word.Word.the-variants.{Past, Other}
+use Rattle.words.specs.declared.Word.{Word}
+use Rattle.words.specs.declared.Word.the-variants.{Past, Other}
 use Rattle.text.specs.Rest.{drop-one}
-use Rattle.text.specs.Word.{wordFrom, wordAt}
+use Rattle.words.specs.Word.{wordFrom, wordAt}
 
 pub word-end : (w rest : List ℕ) (j p : ℕ) → length w ≤ j → wordFrom (drop j w) rest p ≡ Past p
 unfolding wordFrom

@@ -1,12 +1,12 @@
--- `text::word::word_at` meets its contract. Invariant: the rest of the word is looked for at the rest of the text.
+-- `words::word_at` meets its contract. Invariant: the rest of the word is looked for at the rest of the text.
 use borrow.Author.Needs.{needs}
 use Prim.Native.Nat.{_-_}
 use mathlib.Core.Path.{_≡_, refl, sym, _∙_}
 use lib.ListN.{length, drop}
-use Rattle.text.specs.Word.{wordFrom, wordAt}
-use Rattle.text.specs.Word.Laws.{word-end, word-short, word-more, word-other}
-use Rattle.text.proofs.word.word_at.Statement.{statement}
-use Rattle.text.proofs.word.word_at.Tie as tie
+use Rattle.words.specs.Word.{wordFrom, wordAt}
+use Rattle.words.specs.Word.Laws.{word-end, word-short, word-more, word-other}
+use Rattle.words.proofs.word_at.Statement.{statement}
+use Rattle.words.proofs.word_at.Tie as tie
 
 abbrev Inv-loop : tie.InvT-loop
 Inv-loop s at w i₀ j₀ i j = wordAt s at w ≡ wordFrom (drop j w) (drop i s) i

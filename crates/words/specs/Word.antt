@@ -4,8 +4,8 @@ use mathlib.Core.List.{List, [], _∷_}
 use lib.Dec.{eqb}
 use lib.ListN.{drop}
 use Rattle.lists.specs.Choice.{choose}
-use Rattle.text.specs.declared.word.Word.{Word}
-use Rattle.text.specs.declared.word.Word.the-variants.{Past, Other}
+use Rattle.words.specs.declared.Word.{Word}
+use Rattle.words.specs.declared.Word.the-variants.{Past, Other}
 pub mod Laws
 
 -- the position behind the word, where the rest of a text, which begins at position p, begins with it
