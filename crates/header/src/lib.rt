@@ -1,12 +1,12 @@
 // The header of a schedule, read line by line into a small value, from which the net is made once.
 use base_identifiers::id_refusal;
 use base_identifiers::with_id;
+use faulty_form::faulty_line;
 use faulty_links::Faulty;
 use faulty_links::faulty_refusal;
 use faulty_links::is_good;
 use faulty_links::no_faulty;
 use faulty_links::with_faulty;
-use faulty_form::faulty_line;
 use header_forms::id_line;
 use header_forms::net_line;
 use limits::MOST_BASES;

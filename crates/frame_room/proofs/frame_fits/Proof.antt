@@ -1,13 +1,13 @@
--- `framing::frame_fits` meets its contract: numbers 8 and 9 first, then the room.
+-- `frame_room::frame_fits` meets its contract: numbers 8 and 9 first, then the room.
 use Prim.Native.Nat.{ℕ}
 use mathlib.Core.Path.{sym, ap, _∙_}
 use borrow.Author.Tests.{eq-eqb, ne-eqb}
 use lib.Dec.{leb}
 use Rattle.lists.specs.Choice.Laws.{and-fails, and-goes-on}
-use Rattle.framing.specs.Framing.{frameFits}
+use Rattle.frame_room.specs.Room.{frameFits}
 use borrow.Author.Needs.{needs}
-use Rattle.framing.proofs.frame_fits.Statement.{statement}
-use Rattle.framing.proofs.frame_fits.Tie as tie
+use Rattle.frame_room.proofs.frame_fits.Statement.{statement}
+use Rattle.frame_room.proofs.frame_fits.Tie as tie
 
 kind-refusal-requires : tie.Need-kind-refusal-requires
 kind-refusal-requires c κs = search needs
