@@ -8,7 +8,7 @@ use Rattle.limits.specs.Limits.{mostBases}
 use Rattle.lists.specs.Choice.{choose, and}
 use Rattle.frame.specs.Message.{expected}
 use Rattle.frame.specs.Encoding.{frameOf}
-use Rattle.framing.specs.Framing.{frameFits}
+use Rattle.frame_room.specs.Room.{frameFits}
 use Rattle.protocol.specs.declared.Outcome.{Outcome}
 use Rattle.protocol.specs.declared.Outcome.the-variants.{Accepted, Discarded, Refused}
 pub mod Laws

@@ -8,8 +8,8 @@ use lines::bases::two_bases;
 use lines::event::Line;
 use text::number::Number;
 use text::number::field_at;
-use text::word::Word;
-use text::word::word_at;
+use words::Word;
+use words::word_at;
 ghost use mathlib.Core.Path.{_≡_};
 ghost use Rattle.lines.specs.Lines.{startFields, carryFields, forgeFields, eventLine};
 

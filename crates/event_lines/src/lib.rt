@@ -2,7 +2,7 @@
 use event_forms::event_line;
 use events::Reached;
 use faulty_links::Faulty;
-use hexadecimal::hex_bytes;
+use hex_bytes::hex_bytes;
 use limits::MOST_BASES;
 use limits::refusal::FORM;
 use line_places::places_of;

@@ -5,8 +5,8 @@ use cause_text::sentences;
 use cause_text::sentences::NONE;
 use parts::part;
 use parts::plus;
-use text::word::Word;
-use text::word::word_at;
+use words::Word;
+use words::word_at;
 
 // Whether of four bytes the first and the third are zero and the others are not, or the other way round.
 fn is_wide(bytes: &[u8]) -> bool {

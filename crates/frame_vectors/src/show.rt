@@ -43,7 +43,7 @@ fn message(reading: Reading, body: &[u8]) {
 
 // The number of the check, the body, and the reading, of a burst in a net of n bases.
 pub(crate) fn reading(n: usize, burst: &[u8]) {
-    number(reader::check(n, burst) as usize);
+    number(bursts::check(n, burst) as usize);
     let body = stretch::body(n, burst);
     bytes(body);
     message(reader::read(n, burst), body);

@@ -3,8 +3,8 @@ mod bytes;
 
 use crate::bytes::put_four;
 use crate::bytes::put_identifier;
-use frame::kind::kind_refusal;
 use frame::kind::length_of;
+use frame_room::frame_fits;
 use limits::IDENTIFIER_BYTES;
 use limits::TRAILER_BYTES;
 ghost use mathlib.Core.Path.{_≡_};
@@ -12,7 +12,7 @@ ghost use Prim.Native.Nat.{_≤_, _<_};
 ghost use lib.ListN.{length};
 ghost use Rattle.limits.specs.Limits.{frameBytes};
 ghost use Rattle.frame.specs.Encoding.{frameOf, over};
-ghost use Rattle.framing.specs.Framing.{frameFits, putLength, putOutput};
+ghost use Rattle.framing.specs.Framing.{putLength, putOutput};
 
 // A frame of so many bytes, which is its back distance too.
 fn put_frame(kind: u8, size: usize, ids: &[u32], out: &mut [u8])
@@ -33,16 +33,6 @@ fn put_frame(kind: u8, size: usize, ids: &[u32], out: &mut [u8])
         (size / 256 % 256) as u8,
         (size % 256) as u8,
     );
-}
-
-// Whether a frame of a kind with so many identifiers fits in so much room.
-pub fn frame_fits(kind: u8, n: u8, count: usize, room: usize) -> bool
-    ensures { λ r. ⌜ r ≡ frameFits n kind count room ⌝ }
-{
-    if kind_refusal(kind, count, n) != 0 {
-        return false;
-    }
-    length_of(kind, n) <= room
 }
 
 // The frame of a kind and its identifiers in a net of n bases; the answer is its length. Nothing is written, length 0, for a kind that

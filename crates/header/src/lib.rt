@@ -1,10 +1,10 @@
 // The header of a schedule, read line by line into a small value, from which the net is made once.
 use base_identifiers::id_refusal;
 use base_identifiers::with_id;
+use faulty_form::faulty_line;
 use faulty_links::Faulty;
 use faulty_links::no_faulty;
 use faulty_naming::name_faulty;
-use header_forms::faulty_line;
 use header_forms::id_line;
 use header_forms::net_line;
 use limits::MOST_BASES;

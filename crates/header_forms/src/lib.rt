@@ -1,12 +1,11 @@
-// The lines of a schedule's header.
+// The lines of a schedule's header that name its size and the bases' identifiers.
 use lines::bases::Two;
-use lines::bases::is_base;
 use lines::bases::two_at;
 use text::number::Number;
-use text::word::Word;
-use text::word::word_at;
+use words::Word;
+use words::word_at;
 ghost use mathlib.Core.Path.{_≡_};
-ghost use Rattle.lines.specs.Lines.{netLine, idLine, faultyLine};
+ghost use Rattle.lines.specs.Lines.{netLine, idLine};
 
 // `net n t`
 pub fn net_line(s: &[u8], at: usize) -> Two
@@ -33,24 +32,4 @@ pub fn id_line(b: u8, s: &[u8], at: usize) -> Number
     } else {
         Number::Bad
     }
-}
-
-// `faulty a b` (a < b)
-pub fn faulty_line(n: u8, s: &[u8], at: usize) -> Two
-    ensures { λ r. ⌜ r ≡ faultyLine n (now (s .entry)) at ⌝ }
-{
-    let Word::Past(next) = word_at(s, at, b"faulty ") else {
-        return Two::Neither;
-    };
-    let Two::Both(a, b, end) = two_at(s, next, b'\n') else {
-        return Two::Neither;
-    };
-    if is_base(n, a) {
-        if is_base(n, b) {
-            if a < b {
-                return Two::Both(a, b, end);
-            }
-        }
-    }
-    Two::Neither
 }

@@ -1,12 +1,11 @@
 -- "0 to 132 bytes, two lower-case digits each" (document 01, "The replay program"), up to the line feed that ends the line.
-use Prim.Native.Nat.{ℕ, zero, suc, _+_, _*_, _-_, min}
+use Prim.Native.Nat.{ℕ, zero, suc, _+_, _*_, _-_}
 use mathlib.Core.Bool.{Bool}
 use mathlib.Core.List.{List, [], _∷_}
 use lib.Dec.{eqb, ltb, leb}
 use lib.ListN.{drop}
 use Rattle.limits.specs.Limits.{longestForgery}
 use Rattle.lists.specs.Choice.{choose, and, or}
-use Rattle.lists.specs.Lists.{padTo}
 use Rattle.hexadecimal.specs.declared.Hex.{Hex}
 use Rattle.hexadecimal.specs.declared.Hex.the-variants.{Bytes, Bad}
 pub mod Laws
@@ -45,7 +44,3 @@ hexBytes zero rest = []
 hexBytes (suc k) [] = []
 hexBytes (suc k) (a ∷ []) = []
 hexBytes (suc k) (a ∷ (b ∷ rest)) = hexPair a b ∷ hexBytes k rest
-
--- in an array of as many places as a line can forge bytes
-unfoldable pub hexArray : List ℕ → ℕ → ℕ → List ℕ
-hexArray s p k = padTo longestForgery (hexBytes (min k longestForgery) (drop p s))

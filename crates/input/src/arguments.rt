@@ -1,8 +1,8 @@
 // What a program is called with.
 use libc::STDERR_FILENO;
 use libc::STDOUT_FILENO;
-use text::word::Word;
-use text::word::word_at;
+use words::Word;
+use words::word_at;
 
 const HELP: usize = 6;
 

@@ -6,8 +6,8 @@ use crate::bytes::place_of;
 use parts::part;
 use text::number::Number;
 use text::number::number_at;
-use text::word::Word;
-use text::word::word_at;
+use words::Word;
+use words::word_at;
 
 // The line that begins at a place, without its line feed.
 pub fn line_at<'a>(s: &'a [u8], at: usize) -> &'a [u8] {

@@ -6,7 +6,7 @@ use arrival_text::Arrival;
 use call_trace::arrival_call;
 use call_trace::start_call;
 use event_forms::event_line;
-use hexadecimal::hex_bytes;
+use hex_bytes::hex_bytes;
 use lines::event::Line;
 use net::StoredNet;
 use net::nodes::node_at;

@@ -8,12 +8,12 @@ use lib.Dec.{eqb, ltb, leb}
 use Rattle.lists.specs.Choice.{choose, and}
 use Rattle.text.specs.declared.number.Number.{Number}
 use Rattle.text.specs.declared.number.Number.the-variants.{Value, Bad}
-use Rattle.text.specs.declared.word.Word.{Word}
-use Rattle.text.specs.declared.word.Word.the-variants.{Past, Other}
+use Rattle.words.specs.declared.Word.{Word}
+use Rattle.words.specs.declared.Word.the-variants.{Past, Other}
 use Rattle.hexadecimal.specs.declared.Hex.{Hex}
 use Rattle.hexadecimal.specs.declared.Hex.the-variants as hex
 use Rattle.text.specs.Number.{fieldAt}
-use Rattle.text.specs.Word.{wordAt}
+use Rattle.words.specs.Word.{wordAt}
 use Rattle.hexadecimal.specs.Hex.{hexAt}
 use Rattle.lines.specs.declared.bases.Two.{Two}
 use Rattle.lines.specs.declared.bases.Two.the-variants.{Both, Neither}

@@ -6,7 +6,7 @@ use lib.ListN.{length}
 use Rattle.lists.specs.Choice.{choose, and}
 use Rattle.frame.specs.Message.{lengthOf}
 use Rattle.frame.specs.Encoding.{frameOf, over}
-use Rattle.framing.specs.Framing.{frameFits}
+use Rattle.frame_room.specs.Room.{frameFits}
 use Rattle.two_frames.specs.declared.TwoLengths.{TwoLengths}
 pub mod Laws
 

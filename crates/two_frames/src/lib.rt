@@ -1,6 +1,6 @@
 // Two frames of the same identifiers, one after the other, at the front of an output. What stands past them in the output stays as it was.
 use frame::kind::length_of;
-use framing::frame_fits;
+use frame_room::frame_fits;
 use framing::put;
 ghost use mathlib.Core.Path.{_≡_};
 ghost use lib.ListN.{length};

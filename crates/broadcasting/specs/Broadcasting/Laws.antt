@@ -15,8 +15,9 @@ use Rattle.frame.specs.Encoding.{frameOf, over}
 use Rattle.frame.specs.Encoding.Laws.{length-frame, over-nothing}
 use Rattle.frame.specs.Reading.{kindRefusal}
 use Rattle.frame.specs.Reading.Laws.{kind-unknown, kind-size}
-use Rattle.framing.specs.Framing.{frameFits, putLength, putOutput}
-use Rattle.framing.specs.Framing.Laws.{fits-passed}
+use Rattle.frame_room.specs.Room.{frameFits}
+use Rattle.framing.specs.Framing.{putLength, putOutput}
+use Rattle.frame_room.specs.Room.Laws.{fits-passed}
 use Rattle.protocol.specs.declared.Outcome.{Outcome}
 use Rattle.broadcasting.specs.Broadcasting.{frameIn, lastFrame, acceptedWith}
 

@@ -8,7 +8,7 @@ use lib.ListN.{length, take, drop}
 use lib.Seq.{length-take-le}
 use denote.Ref.{now}
 use Rattle.hexadecimal.specs.Hex.{hexBytes}
-use Rattle.hexadecimal.specs.Hex.Laws.{length-hex, hex-front}
+use Rattle.hex_bytes.specs.Array.Laws.{length-hex, hex-front}
 use Rattle.faulty_links.specs.Faulty.{pairsOf}
 use Rattle.events.specs.Events.{forgedTo}
 use Rattle.event_lines.proofs.forge_bytes.Statement.{statement}

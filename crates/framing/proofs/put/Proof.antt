@@ -4,7 +4,7 @@ use native.Mathlib.Omega.{arith}
 use borrow.Author.Tests.{not-true, not-false}
 use Rattle.lists.specs.Choice.Laws.{chosen-yes, chosen-no}
 use Rattle.framing.specs.Framing.{putLength, putOutput}
-use Rattle.framing.specs.Framing.Laws.{fits-asks}
+use Rattle.frame_room.specs.Room.Laws.{fits-asks}
 use borrow.Author.Needs.{needs}
 use Rattle.framing.proofs.put.Statement.{statement}
 use Rattle.framing.proofs.put.Tie as tie

@@ -12,14 +12,14 @@ use Rattle.lists.specs.Choice.{choose, and}
 use Rattle.lists.specs.Choice.Laws.{choose-ind, and-true}
 use Rattle.text.specs.declared.number.Number.{Number}
 use Rattle.text.specs.declared.number.Number.the-variants.{Value, Bad}
-use Rattle.text.specs.declared.word.Word.{Word}
-use Rattle.text.specs.declared.word.Word.the-variants.{Past, Other}
+use Rattle.words.specs.declared.Word.{Word}
+use Rattle.words.specs.declared.Word.the-variants.{Past, Other}
 use Rattle.hexadecimal.specs.declared.Hex.{Hex}
 use Rattle.hexadecimal.specs.declared.Hex.the-variants as hex
 use Rattle.text.specs.Number.{mostNumber, fieldAt}
 use Rattle.text.specs.Number.Range.{Field, field-within}
-use Rattle.text.specs.Word.{wordAt}
-use Rattle.text.specs.Word.Laws.{Behind, word-behind}
+use Rattle.words.specs.Word.{wordAt}
+use Rattle.words.specs.Word.Laws.{Behind, word-behind}
 use Rattle.hexadecimal.specs.Hex.{hexAt}
 use Rattle.hexadecimal.specs.Hex.Range.{HexRange, hex-burst}
 use Rattle.lines.specs.declared.bases.Two.{Two}

@@ -1,7 +1,8 @@
--- `reader::read` meets its contract: a burst that passes the check holds a whole frame, whose trailer is read off.
+-- `reader::read` meets its contract: a burst that passes the check holds a whole frame, whose trailer is read off. Its back distance is the
+-- length of that frame.
 use Rattle.reader.specs.Answers.{readingOf}
 use Prim.Native.Nat.{ℕ, _-_}
-use mathlib.Core.Path.{sym, ap, ap₂, _∙_}
+use mathlib.Core.Path.{sym, ap, _∙_}
 use native.Mathlib.Omega.{arith}
 use borrow.Author.Tests.{eq-eqb, ne-eqb}
 use borrow.Author.Needs.{needs}
@@ -29,30 +30,31 @@ sub-kind c = omega (arith, framed c)
 shared-slice-read-kind : tie.Need-shared-slice-read-kind
 shared-slice-read-kind c = omega (arith, framed (c .before))
 
-sub-wide : tie.Need-sub-wide
-sub-wide c = omega (arith, framed (c .before))
+sub-count : tie.Need-sub-count
+sub-count c = omega (arith, framed (c .before))
 
-shared-slice-read-wide : tie.Need-shared-slice-read-wide
-shared-slice-read-wide c = omega (arith, framed (c .before .before))
+shared-slice-read-count : tie.Need-shared-slice-read-count
+shared-slice-read-count c = omega (arith, framed (c .before .before))
 
-wide-requires : tie.Need-wide-requires
-wide-requires c κs = search needs
+frame-bytes-requires : tie.Need-frame-bytes-requires
+frame-bytes-requires c κs = search needs
 
-back-distance-requires : tie.Need-back-distance-requires
-back-distance-requires c κs = framed (c .before .before .before) .long
+cast-t9 : tie.Need-cast-t9
+cast-t9 c = search needs
 
-sub-t9 : tie.Need-sub-t9
-sub-t9 c = omega (arith, framed (c .before .before .before .before), c .back-distance .ensures)
+sub-t13 : tie.Need-sub-t13
+unfolding countByte fromEnd
+sub-t13 c = omega (arith, framed (c .before .before .before), c .frame-bytes .ensures)
 
 returns-2 : tie.Need-returns-2
 unfolding readingOf kindByte countByte bodyStart fromEnd
 returns-2 c =
-    let a = c .before .before .before .before .before .before .before .args in
-    let check = c .before .before .before .before .before .check in
-    let if1 = c .before .before .before .before .if1 in
-    let s = a .burst .now in
+    let s = c .before .before .before .before .before .before .args .burst .now in
+    let check = c .before .before .before .before .check in
+    let if1 = c .before .before .before .if1 in
     chosen-yes _ (eq-eqb _ 0 (sym (check .ensures) ∙ if1 .left))
-    (ap₂ (λ (k b : ℕ). Message (kindByte s) k (length s - b)) (c .before .wide .ensures) (c .back-distance .ensures))
+    (ap (λ (b : ℕ). Message (kindByte s) (countByte s) (length s - b))
+    (c .frame-bytes .ensures ∙ sym (framed (c .before .before .before) .back)))
 
 pub read-spec : {M : Type 1} → statement M
 read-spec =
@@ -62,9 +64,9 @@ read-spec =
     returns
     sub-kind
     shared-slice-read-kind
-    sub-wide
-    shared-slice-read-wide
-    wide-requires
-    back-distance-requires
-    sub-t9
+    sub-count
+    shared-slice-read-count
+    frame-bytes-requires
+    cast-t9
+    sub-t13
     returns-2)

@@ -1,29 +1,19 @@
--- The stretch of a burst that a body is, and what a reading says of its burst.
-use Prim.Native.Nat.{ℕ, _*_, _-_}
+-- What a reading says of its burst.
+use Prim.Native.Nat.{ℕ}
 use mathlib.Core.Path.{_≡_, refl, sym, ap, _∙_}
 use mathlib.Core.Logic.{_≢_}
 use mathlib.Core.List.{List}
 use native.Mathlib.Omega.{arith}
 use borrow.Author.Tests.{eq-eqb, eqb-true, eqb-false}
 use lib.Dec.{eqb}
-use lib.ListN.{length, take, drop}
 use Rattle.lists.specs.Choice.Laws.{choose-ind, choose-yes}
 use Rattle.reader.specs.declared.Reading.{Reading}
 use Rattle.reader.specs.declared.Reading.the-variants.{Message, Refused}
-use Rattle.frame.specs.Reading.{kindByte, countByte, backDistance, bodyStart, bodyOf, readRefusal}
-use Rattle.frame.specs.Reading.Laws.{Framed}
+use Rattle.frame.specs.Reading.{kindByte, countByte, bodyStart, readRefusal}
 use Rattle.reader.specs.Answers.{readingOf, numberIn, kindIn}
 
 message-no-number : {kind count start r : ℕ} → Message kind count start ≡ Refused r → ⊥
 message-no-number e = let z : _≡_ {A = ℕ} 0 1 = cc in omega arith
-
--- from the body's start to the trailer
-pub stretch-is : (s : List ℕ) (back : ℕ) → Framed s → back ≡ backDistance s
-    → take (length s - 4 - (length s - back)) (drop (length s - back) s) ≡ bodyOf s
-unfolding bodyOf bodyStart
-stretch-is s back F e =
-    let k : length s - 4 - (length s - backDistance s) ≡ 4 * countByte s = omega (arith, F) in
-    rw (e, k)
 
 -- ---- the reading
 pub reading-number : (n : ℕ) (s : List ℕ) → numberIn (readingOf n s) ≡ readRefusal n s

@@ -3,8 +3,8 @@ use mathlib.Core.Path.{_≡_, sym, _∙_}
 use mathlib.Core.Bool.{true}
 use native.Mathlib.Omega.{arith}
 use borrow.Author.Tests.{not-true, not-false}
-use Rattle.framing.specs.Framing.{frameFits}
-use Rattle.framing.specs.Framing.Laws.{fits-passed}
+use Rattle.frame_room.specs.Room.{frameFits}
+use Rattle.frame_room.specs.Room.Laws.{fits-passed}
 use Rattle.two_frames.specs.TwoFrames.Laws.{two-fit, two-fail}
 use borrow.Author.Needs.{needs}
 use Rattle.two_frames.proofs.two_fit.Statement.{statement}

@@ -12,8 +12,10 @@ use Rattle.frame.specs.Encoding.Laws.{over-rest, length-frame}
 use Rattle.frame.specs.Message.{lengthOf}
 use Rattle.frame.specs.Reading.{kindRefusal}
 use Rattle.frame.specs.Reading.Laws.{kind-size}
-use Rattle.framing.specs.Framing.{frameFits, putLength, putOutput}
-use Rattle.framing.specs.Framing.Laws.{fits, fits-passed, put-length, put-output}
+use Rattle.frame_room.specs.Room.{frameFits}
+use Rattle.framing.specs.Framing.{putLength, putOutput}
+use Rattle.frame_room.specs.Room.Laws.{fits, fits-passed}
+use Rattle.framing.specs.Framing.Laws.{put-length, put-output}
 use Rattle.two_frames.specs.TwoFrames.{twoFit, twoLengths, twoOutput}
 
 -- ---- two frames fit if the second fits behind the first, and not where the first does not

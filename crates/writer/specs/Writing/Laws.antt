@@ -13,8 +13,8 @@ use Rattle.lists.specs.Choice.Laws.{choose-yes, choose-no, passed, first-none, 
 use Rattle.frame.specs.Message.{known, expected, lengthOf}
 use Rattle.frame.specs.Reading.{kindRefusal, listRefusal}
 use Rattle.frame.specs.Reading.Laws.{kind-passed, kind-size}
-use Rattle.framing.specs.Framing.{frameFits}
-use Rattle.framing.specs.Framing.Laws.{fits}
+use Rattle.frame_room.specs.Room.{frameFits}
+use Rattle.frame_room.specs.Room.Laws.{fits}
 use Rattle.writer.specs.Writing.{writeRefusal}
 
 -- ---- the number of a write

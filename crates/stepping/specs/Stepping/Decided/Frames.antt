@@ -19,7 +19,7 @@ use Rattle.frame.specs.Encoding.Laws.{length-frame}
 use Rattle.frame.specs.Reading.{message}
 use Rattle.frame.specs.Reading.Laws.{kind-passes}
 use Rattle.frame.specs.Reading.Theorems.{parts-message}
-use Rattle.framing.specs.Framing.Laws.{fits}
+use Rattle.frame_room.specs.Room.Laws.{fits}
 use Rattle.protocol.specs.declared.Base.{Base}
 use Rattle.protocol.specs.declared.Outcome.the-variants.{Accepted}
 use Rattle.protocol.specs.Steps.{Done, accepted, accepts, encodeAll, lengths, outcomeOf, outputOf}
