@@ -4,6 +4,7 @@ use frame::kind::CORRECT_FINAL;
 use frame::kind::VERIFY;
 use frame::kind::VERIFY_FINAL;
 use held::HELD_CORRECT_FINAL;
+use held::HELD_NOTHING;
 use held::HELD_VERIFY_FINAL;
 use held::has_announce;
 use held::is_full;
@@ -114,7 +115,7 @@ pub fn accept(n: u8, certified: bool, link: Link, kind: u8, ids: [u32; MOST_BASE
             link,
             ids,
         ),
-        VERIFY_FINAL => holding(link.held != 0, HELD_VERIFY_FINAL, link, ids),
+        VERIFY_FINAL => holding(link.held != HELD_NOTHING, HELD_VERIFY_FINAL, link, ids),
         _ => Accepted {
             accepted: false,
             link,

@@ -4,6 +4,7 @@ use checks::is_secondary;
 use checks::is_vote;
 use frame::kind::ANNOUNCE;
 use frame::kind::CORRECT_FINAL;
+use frame::kind::NO_KIND;
 use frame::kind::VERIFY;
 use frame::kind::VERIFY_FINAL;
 use limits::MOST_BASES;
@@ -94,7 +95,7 @@ fn vote_kind(vote: bool) -> u8
     if vote {
         return VERIFY_FINAL;
     }
-    0
+    NO_KIND
 }
 
 fn sent_with(vote: bool, sent: u8) -> u8
@@ -122,7 +123,7 @@ fn echo_of(kind: u8) -> u8
     if kind == ANNOUNCE {
         return VERIFY;
     }
-    0
+    NO_KIND
 }
 
 // Of a base that has accepted a message of a kind and its identifiers.
@@ -131,13 +132,13 @@ pub fn decide(base: Base, kind: u8, ids: [u32; MOST_BASES]) -> Decision
 {
     let kept = base.final_list;
     if VERIFY_FINAL < kind {
-        return runs_on(base.state, kept, 0, base.sent);
+        return runs_on(base.state, kept, NO_KIND, base.sent);
     }
     if VERIFY < kind {
         return vector_decision(base, kept, kind, ids);
     }
-    if kind == 0 {
-        return runs_on(base.state, kept, 0, base.sent);
+    if kind == NO_KIND {
+        return runs_on(base.state, kept, NO_KIND, base.sent);
     }
     prime_decision(base, kept, echo_of(kind))
 }

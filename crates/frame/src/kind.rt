@@ -6,6 +6,9 @@ ghost use Rattle.limits.specs.Limits.{frameBytes};
 ghost use Rattle.frame.specs.Message.{shapeOf, lengthOf};
 ghost use Rattle.frame.specs.Reading.{kindRefusal};
 
+// In place of a kind, where there is no message.
+pub const NO_KIND: u8 = 0;
+
 pub const ANNOUNCE: u8 = 1;
 
 pub const VERIFY: u8 = 2;

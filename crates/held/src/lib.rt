@@ -1,11 +1,14 @@
 // What one link holds: an Announce, how many identifiers, a vector message of which kind.
 use frame::kind::CORRECT_FINAL;
+use frame::kind::NO_KIND;
 use frame::kind::VERIFY_FINAL;
 use protocol::Link;
 ghost use mathlib.Core.Path.{_≡_};
 ghost use Rattle.protocol.specs.Links.{announces, used, full};
 
 // The kind of the vector message that a link holds, in the width that the link has for it.
+pub const HELD_NOTHING: u16 = NO_KIND as u16;
+
 pub const HELD_CORRECT_FINAL: u16 = CORRECT_FINAL as u16;
 
 pub const HELD_VERIFY_FINAL: u16 = VERIFY_FINAL as u16;

@@ -1,6 +1,7 @@
 // Whether what is held of one link is sound, or nothing.
 use comparison::zero_behind;
 use held::HELD_CORRECT_FINAL;
+use held::HELD_NOTHING;
 use held::HELD_VERIFY_FINAL;
 use held::held_count;
 use list_soundness::list_sound;
@@ -65,5 +66,5 @@ pub fn place_sound(n: u8, i: usize, link: Link) -> bool
     if held_count(link) != 0 {
         return false;
     }
-    link.held == 0
+    link.held == HELD_NOTHING
 }

@@ -5,6 +5,7 @@ use accepting::accept;
 use certification::certifies;
 use deciding::Decision;
 use deciding::decide;
+use frame::kind::NO_KIND;
 use limits::MOST_BASES;
 use limits::MOST_LINKS;
 use lists::least;
@@ -49,7 +50,7 @@ pub fn decided(
     if !accepted.accepted {
         let list = base.final_list;
         return Decision {
-            first: 0,
+            first: NO_KIND,
             sent: base.sent,
             stops: false,
             state: RUNNING,

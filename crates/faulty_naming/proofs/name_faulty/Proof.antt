@@ -1,6 +1,6 @@
 -- `faulty_naming::name_faulty` meets its contract: "none twice", then number 15.
 use borrow.Author.Needs.{needs}
-use Rattle.faulty_naming.specs.Naming.Laws.{named-twice, too-many, named-faulty}
+use Rattle.faulty_naming.specs.Naming.Laws.{named-twice, one-too-many, named-faulty}
 use Rattle.faulty_naming.proofs.name_faulty.Statement.{statement}
 use Rattle.faulty_naming.proofs.name_faulty.Tie as tie
 
@@ -11,7 +11,7 @@ faulty-refusal-requires : tie.Need-faulty-refusal-requires
 faulty-refusal-requires c κs = search needs
 
 returns : tie.Need-returns
-returns c = too-many _ _ _ _ (c .before .before .before .is-good .ensures) (c .before .before .if1 .taken)
+returns c = one-too-many _ _ _ _ (c .before .before .before .is-good .ensures) (c .before .before .if1 .taken)
     (c .before .faulty-refusal .ensures) (c .if2 .taken)
 
 with-faulty-requires : tie.Need-with-faulty-requires

@@ -28,8 +28,8 @@ module _ (t : ℕ) (f : Faulty) (a b : ℕ) where
       unfolding namingRefusal
       number = chosen-no _ (ap not (sym eg ∙ fine)) er
 
-      pub too-many : r ≢ 0 → record { refusal = r; faulty = f } ≡ faultyNamed t f a b
-      too-many some = refused-by number some
+      pub one-too-many : r ≢ 0 → record { refusal = r; faulty = f } ≡ faultyNamed t f a b
+      one-too-many some = refused-by number some
 
       pub named-faulty : r ≡ 0 → {w : Faulty} → w ≡ markedFaulty f a b → record { refusal = 0; faulty = w } ≡ faultyNamed t f a b
       unfolding faultyNamed
