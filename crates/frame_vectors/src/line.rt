@@ -1,5 +1,5 @@
 // The fields of a line of vectors, for numbers up to the largest and for more bytes than a burst may have.
-use hexadecimal::hex_bytes;
+use hex_bytes::hex_bytes;
 use limits::LIST_ROOM;
 use limits::LONGEST_BURST;
 use line_fields::bytes::spaces;

@@ -14,7 +14,7 @@ use Rattle.frame.specs.Message.{kindOf, idsOf}
 use Rattle.frame.specs.Encoding.{frameOf, encode, over}
 use Rattle.frame.specs.Encoding.Laws.{length-frame, over-nothing}
 use Rattle.frame.specs.Reading.Laws.{announce-kind, verify-kind, kind-size}
-use Rattle.framing.specs.Framing.Laws.{fits-passed}
+use Rattle.frame_room.specs.Room.Laws.{fits-passed}
 use Rattle.two_frames.specs.declared.TwoLengths.{TwoLengths}
 use Rattle.two_frames.specs.TwoFrames.{twoFit, twoLengths, twoOutput}
 use Rattle.two_frames.specs.TwoFrames.Laws.{put-two-lengths, put-two-output}
