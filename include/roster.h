@@ -3,10 +3,10 @@
  * docs/HOW-A-BASE-DECIDES.md lists what an integrator has to do, step by step; docs/RULES.md has the bytes of a frame.
  *
  * Linking. A base's calls are in libroster_c.a (`rt staticlib roster_c` writes it to target/staticlib/); roster_replay alone is in
- * libreplay_c.a (`rt staticlib replay_c`), as a base in the field replays nothing. Neither needs the other, and one program may link both.
+ * libreplay.a (`rt staticlib replay`), as a base in the field replays nothing. Neither needs the other, and one program may link both.
  * They are for x86-64 with the System V calling convention: the stack is aligned to 16 bytes at a call, SSE2 is on, and the 128 bytes
  * below the stack pointer are in use (an interrupt needs a stack of its own); the kit builds for no other machine. They take memcpy and
- * memset from the platform, libreplay_c.a also memmove, and nothing else: no other library, no heap, no state of their own. Different
+ * memset from the platform, libreplay.a also memmove, and nothing else: no other library, no heap, no state of their own. Different
  * records may be used by different threads at the same time. Where the compiler lays the structs out otherwise (-fpack-struct), this header
  * does not compile.
  *
@@ -81,7 +81,7 @@ extern "C" {
  * or a dynamic linker at their first call. tests/figures measures it and holds it to this. */
 #define ROSTER_STACK_IDLE 5000
 #define ROSTER_STACK_START 9000
-#define ROSTER_STACK_ARRIVE 12000
+#define ROSTER_STACK_ARRIVE 10000
 #define ROSTER_STACK_LEADER 8000
 #define ROSTER_STACK_READ 1000
 #define ROSTER_STACK_WRITE 1000
@@ -218,7 +218,7 @@ roster_taken roster_read(size_t n, const uint8_t *burst, size_t burst_length);
 ROSTER_LOOK_AT
 roster_put roster_write(size_t n, uint8_t kind, const uint32_t *ids, size_t id_count, uint8_t *out, size_t out_length);
 
-/* In libreplay_c.a. The report of a schedule, as hillreplay prints it; its length. A schedule that is refused has the report
+/* In libreplay.a. The report of a schedule, as hillreplay prints it; its length. A schedule that is refused has the report
  * "refused N line L". An output with less than ROSTER_REPORT_ROOM bytes is left alone, and the length is 0. Touches the report's bytes at
  * the front of the output. */
 ROSTER_LOOK_AT

@@ -1,6 +1,6 @@
-//! libroster_c.a and libreplay_c.a for Rust: the sizes, numbers, records and calls of roster.h, and each call with slices. Bring it in as a
+//! libroster_c.a and libreplay.a for Rust: the sizes, numbers, records and calls of roster.h, and each call with slices. Bring it in as a
 //! module (`#[path = "include/roster.rs"] mod roster;`, from where that file lies) and link the archive
-//! (`rustc --edition 2021 base.rs -L target/staticlib -l static=roster_c`; who calls [`replay`] adds `-l static=replay_c`). With cargo,
+//! (`rustc --edition 2021 base.rs -L target/staticlib -l static=roster_c`; who calls [`replay`] adds `-l static=replay`). With cargo,
 //! build.rs prints `cargo:rustc-link-search=native=FOLDER` and `cargo:rustc-link-lib=static=roster_c`.
 //!
 //! What a call does, touches and is turned down by stands in roster.h. tests/layout holds the two files against each other. It needs
@@ -26,7 +26,7 @@ pub const REPORT_ROOM: usize = (MOST_BASES + 1) * LINE_ROOM;
 /// take, or a dynamic linker at their first call.
 pub const STACK_IDLE: usize = 5000;
 pub const STACK_START: usize = 9000;
-pub const STACK_ARRIVE: usize = 12000;
+pub const STACK_ARRIVE: usize = 10000;
 pub const STACK_LEADER: usize = 8000;
 pub const STACK_READ: usize = 1000;
 pub const STACK_WRITE: usize = 1000;
@@ -238,7 +238,7 @@ pub fn write(n: usize, kind: u8, ids: &[u32], out: &mut [u8]) -> Put {
     unsafe { roster_write(n, kind, ids.as_ptr(), ids.len(), out.as_mut_ptr(), out.len()) }
 }
 
-/// The report of a schedule, as hillreplay prints it; its length. In libreplay_c.a, as every other call is in libroster_c.a.
+/// The report of a schedule, as hillreplay prints it; its length. In libreplay.a, as every other call is in libroster_c.a.
 #[inline]
 #[must_use]
 pub fn replay(schedule: &[u8], out: &mut [u8]) -> usize {

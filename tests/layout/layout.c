@@ -67,7 +67,7 @@ static void link_fields(roster_base *base, const uint32_t *list)
         check("link.list", held->list[k], list[k]);
 }
 
-/* Votes for the list on links 1 to t + 1, two of them Correct-Finals, stop the base as secondary. */
+/* Votes for the list on links 1 to t, two of them Correct-Finals, and the one that the last link holds stop the base as secondary. */
 static void stops(roster_base *base, const uint32_t *list)
 {
     roster_answer a = {0};

@@ -62,7 +62,7 @@ fn agreement_roots() -> Vec<Place> {
 
 impl World {
     /// What schedule/specs/Theorem*.antt define, the statement about what each line does, and the definitions in the contract of
-    /// `replay::replay`.
+    /// `replay::roster_replay`.
     fn replay_roots(&self) -> Result<Vec<Place>, String> {
         let theorems = self
             .modules
@@ -74,8 +74,8 @@ impl World {
         roots.push(place("schedule/specs/Meaning/Effects.antt", "Effects"));
         let code = text_of("crates/replay/src/lib.rt")?;
         let imports: Vec<Import> = code.lines().filter_map(|line| import_of(line.strip_prefix("ghost ")?.trim_end_matches(';'))).collect();
-        let contract =
-            code.split_once("pub fn replay(").and_then(|(_, rest)| rest.split_once("\n{")).ok_or("replay::replay is not found")?.0;
+        let found = code.split_once("fn roster_replay(").and_then(|(_, rest)| rest.split_once("\n{"));
+        let (contract, _) = found.ok_or("replay::roster_replay is not found")?;
         roots.extend(names_in(contract).filter_map(|name| self.imported(&imports, name)));
         Ok(roots)
     }

@@ -13,7 +13,7 @@ type Edit = (String, String);
 
 /// What the prover says of a proof that no longer fits the code, where the edit changed the code's shape, and of a name that is nowhere.
 /// Such an edit shows nothing.
-const MISFITS: [&str; 3] = ["has no field", "has no `Need-", "is not in scope"];
+const MISFITS: [&str; 5] = ["has no field", "has no `Need-", "is not in scope", "is applied to an argument", "was not determined"];
 
 pub fn check() -> Result<String, Vec<String>> {
     let there = there();

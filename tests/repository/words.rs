@@ -69,7 +69,7 @@ fn is_function(call: &str) -> bool {
     let path: Vec<&str> = call.split("::").collect();
     let [krate, modules @ .., name] = &path[..] else { return false };
     let file = if modules.is_empty() { "lib".to_string() } else { modules.join("/") };
-    text_of(&format!("crates/{krate}/src/{file}.rt")).is_ok_and(|text| text.contains(&format!("pub fn {name}(")))
+    text_of(&format!("crates/{krate}/src/{file}.rt")).is_ok_and(|text| text.contains(&format!("fn {name}(")))
 }
 
 /// The rows of the tables whose first head is `Number`: number, name in the code, words, who gives it, definition, code.

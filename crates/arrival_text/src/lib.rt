@@ -3,15 +3,15 @@
 mod reason;
 mod trailer;
 
-use c_reading::read_numbers;
-use cause_text::meanings::meaning;
+use cause_text::meanings::say_meaning;
 use frame::kind::CORRECT_FINAL;
-use frame::kind::VERIFY_FINAL;
+use held::HELD_VERIFY_FINAL;
 use message_text::say;
 use numbering::link_at;
 use output::with_numbers;
 use protocol::Base;
 use protocol::Link;
+use readings::read_numbers;
 
 // On which link a burst arrives, from which base or as if from it.
 pub struct Arrival {
@@ -37,13 +37,13 @@ fn on_link(arrival: Arrival, words: &[u8]) {
 
 fn hears(b: u8, n: u8, burst: &[u8]) {
     say::base(b, b" hears ");
-    say::message(n, burst);
+    say::burst_message(n, burst);
 }
 
 // The number, and what it means.
 fn refusal(number: u8, burst: &[u8]) {
     with_numbers(b"#, ", [number as usize, 0, 0]);
-    meaning(number as usize);
+    say_meaning(number as usize);
     trailer::shown(number, burst);
     output::text(b"\n");
 }
@@ -66,7 +66,7 @@ fn discards(b: u8, base: Base, held: Link, arrival: Arrival, burst: &[u8]) {
 
 // A Correct-Final takes the place of the Verify-Final that its link held.
 fn replaces(n: u8, held: Link, kind: u8) {
-    if held.held != VERIFY_FINAL as u16 {
+    if held.held != HELD_VERIFY_FINAL {
         return;
     }
     if kind != CORRECT_FINAL {

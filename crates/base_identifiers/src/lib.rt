@@ -8,7 +8,7 @@ ghost use Rattle.schedule.specs.Header.{owned, idRefusal};
 ghost use Rattle.base_identifiers.specs.Identifiers.{namedIds, idsNet};
 
 // The identifiers with v as that of base b.
-pub fn with_id(ids: [u32; MOST_BASES], b: u8, v: u32) -> [u32; MOST_BASES]
+pub fn named_ids(ids: [u32; MOST_BASES], b: u8, v: u32) -> [u32; MOST_BASES]
     ensures { λ r. ⌜ r ≡ namedIds ids b v ⌝ }
 {
     let place = b as usize;

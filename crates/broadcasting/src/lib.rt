@@ -10,7 +10,7 @@ ghost use mathlib.Core.List.{_++_};
 ghost use Prim.Native.Nat.{_≤_};
 ghost use lib.ListN.{length};
 ghost use Rattle.frame.specs.Encoding.{over};
-ghost use Rattle.broadcasting.specs.Broadcasting.{frameIn, lastFrame, acceptedWith, behindStart};
+ghost use Rattle.broadcasting.specs.Broadcasting.{frameIn, lastFrame, acceptedWith};
 
 // The frame of a kind and as many identifiers of an array as the kind holds. Nothing is written, length 0, for a kind that there is
 // not, for more identifiers than the array has, and where the output has no room.
@@ -46,7 +46,7 @@ fn accepted(first: usize, second: usize) -> Outcome
 
 // What a base broadcasts that has accepted a message: a frame of the first kind, none for zero, of the message's identifiers, and a
 // Correct-Final of its final list where it stops.
-pub fn broadcast(
+pub fn put_broadcasts(
     n: u8,
     first: u8,
     ids: [u32; MOST_BASES],
@@ -66,31 +66,4 @@ pub fn broadcast(
     }
     let back = say(CORRECT_FINAL, n, list, &mut out[front..]);
     accepted(front, back)
-}
-
-// The answer of a first message, behind the two frames of the start.
-pub fn behind_start(announce: usize, verify: usize, outcome: Outcome) -> Outcome
-    ensures { λ r. ⌜ r ≡ behindStart announce verify outcome ⌝ }
-{
-    match outcome {
-        Outcome::Accepted {
-            first,
-            second: _,
-            third: _,
-        } => Outcome::Accepted {
-            first: announce,
-            second: verify,
-            third: first,
-        },
-        Outcome::Discarded {
-            first,
-            second: _,
-            third: _,
-        } => Outcome::Discarded {
-            first: announce,
-            second: verify,
-            third: first,
-        },
-        Outcome::Refused(number) => Outcome::Refused(number),
-    }
 }

@@ -1,5 +1,5 @@
 // Whether a burst is a frame of the net: its length, its trailer, its identifiers.
-use decoding::identifiers;
+use decoding::id_array;
 use frame::kind::kind_refusal;
 use frame::kind::length_of;
 use limits::LONGEST_BURST;
@@ -102,7 +102,7 @@ fn body_refusal(burst: &[u8]) -> u8
     ensures { λ r. ⌜ r ≡ listRefusal (idsIn (now (burst .entry))) ⌝ }
 {
     let count = wide(burst[burst.len() - 3]);
-    let ids = identifiers(body_in(burst));
+    let ids = id_array(body_in(burst));
     list_refusal(&ids[..count])
 }
 

@@ -8,8 +8,7 @@ use c_answers::ACCEPTED;
 use c_answers::CallAnswer;
 use c_answers::REFUSED;
 use c_answers::outcome_numbers;
-use c_reading::read_numbers;
-use change::changed;
+use change::changed_base;
 use frame::kind::CORRECT_FINAL;
 use leader_rule::leader_of;
 use limits::MOST_BASES;
@@ -23,7 +22,8 @@ use output::with_numbers;
 use protocol::Base;
 use protocol::IDLE;
 use protocol::PRIME;
-use start_call::start;
+use readings::read_numbers;
+use starting::start;
 
 fn state_word(state: u8) {
     if state == PRIME {
@@ -80,7 +80,7 @@ fn caller_of(b: u8, made: usize, after: Base) -> Caller {
 }
 
 // A start at base b, which had made so many broadcasts.
-pub fn start_call(b: u8, base: Base, made: usize) {
+pub fn show_start(b: u8, base: Base, made: usize) {
     if base.state != IDLE {
         return say::base(b, b" has started: discarded\n");
     }
@@ -144,7 +144,7 @@ fn arrived(
 }
 
 // A burst arrives at base b, which had made so many broadcasts.
-pub fn arrival_call(b: u8, base: Base, made: usize, arrival: Arrival, burst: &[u8]) {
+pub fn show_arrival(b: u8, base: Base, made: usize, arrival: Arrival, burst: &[u8]) {
     let mut frames = [0u8; OUTPUT_ROOM];
     let change = arrive(base, arrival.link, burst, &mut frames);
     let outcome = change.outcome;
@@ -152,7 +152,7 @@ pub fn arrival_call(b: u8, base: Base, made: usize, arrival: Arrival, burst: &[u
     if answer.outcome == REFUSED {
         return say_refused(b, arrival, burst, answer.refusal);
     }
-    let after = changed(base, change);
+    let after = changed_base(base, change);
     let caller = caller_of(b, made, after);
     arrived(caller, base, after, arrival, answer, burst, &frames);
 }

@@ -2,7 +2,7 @@
 use faulty_links::Faulty;
 use faulty_links::is_good;
 use limits::refusal;
-use marks::heard;
+use marks::heard_by;
 use node::Node;
 use node::log::broadcasts;
 ghost use mathlib.Core.Path.{_≡_};
@@ -20,7 +20,7 @@ pub fn carry_refusal(sender: Node, receiver: Node, faulty: Faulty, a: u8, b: u8,
         return refusal::NOT_BROADCAST;
     }
     if is_good(faulty, a, b) {
-        if heard(receiver, a, k) {
+        if heard_by(receiver, a, k) {
             return refusal::CARRIED_BEFORE;
         }
     }

@@ -35,7 +35,7 @@ pub fn of_byte(sentence: usize, line: &[u8], place: usize) -> Cause {
 }
 
 // The first, or else the second.
-pub fn or(first: Cause, second: Cause) -> Cause {
+pub fn first_cause(first: Cause, second: Cause) -> Cause {
     if first.sentence == NONE {
         return second;
     }

@@ -24,6 +24,6 @@ a carry repeats one already made in that direction on a good link
 a forgery is put on a good link
 ";
 
-pub fn meaning(number: usize) {
+pub fn say_meaning(number: usize) {
     text(row(&MEANINGS, number));
 }

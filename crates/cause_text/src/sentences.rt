@@ -109,9 +109,9 @@ pub const TOO_LARGE: usize = 26;
 
 pub const LEADING_ZERO: usize = 27;
 
-pub const CAPITAL_DIGIT: usize = 28;
+pub const CAPITAL_HEX: usize = 28;
 
-pub const NO_HEX_DIGIT: usize = 29;
+pub const NOT_HEX: usize = 29;
 
 pub const TOO_MANY_BYTES: usize = 30;
 

@@ -1,6 +1,6 @@
 // A cause, told.
 use crate::cause::Cause;
-use crate::meanings::meaning;
+use crate::meanings::say_meaning;
 use crate::sentences::NONE;
 use crate::sentences::SENTENCES;
 use limits::LONGEST_SCHEDULE;
@@ -96,7 +96,7 @@ fn put(sign: u8, cause: Cause, kind: usize, line: &[u8]) {
         b'%' => quoted(part(line, between(0, cause.number), 1)),
         b'$' => form(kind),
         b'*' => line_itself(line),
-        b'+' => meaning(cause.number),
+        b'+' => say_meaning(cause.number),
         _ => text(&[sign]),
     }
 }

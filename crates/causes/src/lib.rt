@@ -5,7 +5,7 @@ mod numbers;
 use crate::numbers::number_cause;
 use cause_text::cause::Cause;
 use cause_text::cause::counted;
-use cause_text::cause::or;
+use cause_text::cause::first_cause;
 use cause_text::cause::said;
 use cause_text::sentences;
 use cause_text::sentences::ENDS_BEFORE;
@@ -21,7 +21,7 @@ use form_causes::space_cause;
 use form_causes::word_cause;
 use limits::LONGEST_SCHEDULE;
 use limits::refusal::FORM;
-use line_fields::forms::kind_of;
+use line_fields::forms::line_kind;
 use line_fields::line::line_at;
 
 // A line that is refused, and what the lines before it have told.
@@ -44,10 +44,10 @@ fn ended_line(kind: usize, s: &[u8], line: &[u8], refused: RefusedLine) -> Cause
     let number = refused.number;
     let n = refused.n;
     let word = word_cause(kind, line, number, n, refused.faulty);
-    let behind = or(word, field_cause(kind, s, line, number, n));
-    or(
+    let behind = first_cause(word, field_cause(kind, s, line, number, n));
+    first_cause(
         byte_cause(s, line, refused.at),
-        or(space_cause(kind, line), behind),
+        first_cause(space_cause(kind, line), behind),
     )
 }
 
@@ -81,7 +81,7 @@ fn further(sentence: usize, kind: usize, line: &[u8], number: usize, n: usize) -
 
 pub fn explain(s: &[u8], refused: RefusedLine) {
     let line = line_at(s, refused.at);
-    let kind = kind_of(line);
+    let kind = line_kind(line);
     tell(counted(sentences::HEAD, refused.number), kind, line);
     let refusal = refused.refusal as usize;
     tell(counted(sentences::NUMBER, refusal), kind, line);

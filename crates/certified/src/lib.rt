@@ -1,5 +1,5 @@
 // The certified identifiers: the own one and every accepted Announce.
-use counted_links::link_count;
+use counted_links::links_in;
 use held::has_announce;
 use limits::MOST_BASES;
 use protocol::Base;
@@ -20,7 +20,7 @@ pub fn certified_ids(base: Base) -> List
     let mut ids = [0u32; MOST_BASES];
     ids[0] = base.own;
     let mut count: usize = 1;
-    let mut i = link_count(base.n);
+    let mut i = links_in(base.n);
     while 0 < i {
         i -= 1;
         let link = base.links[i];

@@ -19,7 +19,7 @@ pub struct Change {
 }
 
 // The record with a change made.
-pub fn changed(base: Base, change: Change) -> Base
+pub fn changed_base(base: Base, change: Change) -> Base
     ensures { λ r. ⌜ r ≡ changedBase base change ⌝ }
 {
     let mut next = base;

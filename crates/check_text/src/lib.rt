@@ -1,7 +1,7 @@
 // The figures of the checks, told on standard output beside what they are held against.
 use certification::certified_count;
 use correct_finals::correct_count;
-use counted_links::link_count;
+use counted_links::links_in;
 use frame::kind::CORRECT_FINAL;
 use limits::MOST_BASES;
 use message_text::say;
@@ -14,7 +14,7 @@ use sum_of_tallies::tally_sum;
 use suspect_text::missing::missing_verifies;
 use suspect_text::pairs::suspect_pairs;
 use suspects::suspect_count;
-use tally::tally_of;
+use tally::tally;
 use vectors::list_tally;
 
 // n² - 2t
@@ -41,23 +41,23 @@ fn verdict(state: u8) {
 }
 
 // Words, and `310 has 3`
-fn tally(base: Base, g: u32, words: &[u8]) {
+fn say_tally(base: Base, g: u32, words: &[u8]) {
     output::text(words);
-    with_numbers(b"# has #", [g as usize, tally_of(base, g), 0]);
+    with_numbers(b"# has #", [g as usize, tally(base, g), 0]);
 }
 
 fn link_tallies(base: Base) {
-    let k = link_count(base.n);
+    let k = links_in(base.n);
     let mut i: usize = 0;
     while i < k {
         i += 1;
-        tally(base, link_at(base, i).announce, b", ");
+        say_tally(base, link_at(base, i).announce, b", ");
     }
 }
 
 // The tallies behind a sum, where every link has announced an identifier.
 fn tallies(base: Base) {
-    tally(base, base.own, b"  tallies: ");
+    say_tally(base, base.own, b"  tallies: ");
     link_tallies(base);
     output::text(b"\n");
 }

@@ -1,5 +1,5 @@
 // The links that hold a list as Correct-Final.
-use counted_links::link_count;
+use counted_links::links_in;
 use counting::one;
 use held::HELD_CORRECT_FINAL;
 use held_lists::holds_vector;
@@ -15,7 +15,7 @@ ghost use Rattle.protocol.specs.Record.{correctCount};
 pub fn correct_count(base: Base, v: [u32; MOST_BASES]) -> usize
     ensures { λ r. ⌜ (r ≡ correctCount base (take (base .n) v)) × (r ≤ mostLinks) ⌝ }
 {
-    let k = link_count(base.n);
+    let k = links_in(base.n);
     let mut count: usize = 0;
     let mut i: usize = 0;
     while i < k {

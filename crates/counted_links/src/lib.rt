@@ -5,7 +5,7 @@ ghost use mathlib.Core.Path.{_≡_};
 ghost use Rattle.limits.specs.Limits.{mostLinks};
 
 // The links of a base in a net of n: n - 1, and no more than there is room for.
-pub fn link_count(n: u8) -> usize
+pub fn links_in(n: u8) -> usize
     ensures { λ r. ⌜ r ≡ min (n - 1) mostLinks ⌝ }
 {
     let n = n as usize;

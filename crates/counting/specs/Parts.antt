@@ -23,11 +23,11 @@ pub sum-⊞ : (k : ℕ) (f g : ℕ → ℕ) → sum k (f ⊞ g) ≡ sum k f + su
 unfolding _⊞_
 sum-⊞ k f g = sum-add k f g
 
-unfoldable pub one : ℕ → ℕ
-one x = 1
+unfoldable pub ones : ℕ → ℕ
+ones x = 1
 
-pub sum-ones : (k : ℕ) → sum k one ≡ k
-unfolding one
+pub sum-ones : (k : ℕ) → sum k ones ≡ k
+unfolding ones
 sum-ones k = omega (arith, sum-same k 1)
 
 -- ---- a function on a set
@@ -63,6 +63,6 @@ sum-only (suc k) a f h = elim (ℕ-discrete a k) [
   | no e ↦ omega (arith, only-elsewhere a f k e, sum-only k a f (omega arith))
 ]
 
-pub sum-only-one : (k a : ℕ) → a < k → sum k (only a one) ≡ 1
-unfolding one
-sum-only-one k a h = sum-only k a one h
+pub sum-only-one : (k a : ℕ) → a < k → sum k (only a ones) ≡ 1
+unfolding ones
+sum-only-one k a h = sum-only k a ones h

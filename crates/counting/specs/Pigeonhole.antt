@@ -11,7 +11,7 @@ use Rattle.counting.specs.Search.{met-or-not}
 use Rattle.counting.specs.Sums.{bit, sum}
 use Rattle.counting.specs.Sums.Laws.{sum-mono, sum-add, sum-swap, sum-same}
 use Rattle.counting.specs.Counts.{count, count-one, count-once, count-none}
-use Rattle.counting.specs.Parts.{one, only, only-there, only-elsewhere, sum-only-one}
+use Rattle.counting.specs.Parts.{ones, only, only-there, only-elsewhere, sum-only-one}
 
 -- the first n values of c are different
 abbrev pub Injective : ℕ → (ℕ → ℕ) → Type 0
@@ -55,14 +55,14 @@ module _ (n m : ℕ) (c d : ℕ → ℕ) (apart : Injective n c) (met : (u : ℕ
     arith,
     uses-all,
     sum-only-one m z z-in,
-    sum-add m (λ j. uses (d j)) (only z one),
+    sum-add m (λ j. uses (d j)) (only z ones),
     sum-same m 1,
-    sum-mono m (λ j. uses (d j) + only z one j) (λ j. 1) (λ j l. point j (ℕ-discrete z j)),
+    sum-mono m (λ j. uses (d j) + only z ones j) (λ j. 1) (λ j l. point j (ℕ-discrete z j)),
   )
     where
-      point : (j : ℕ) → Dec (z ≡ j) → uses (d j) + only z one j ≤ 1
-      point j (yes e) = unfold one in omega (arith, only-there z one j e, uses-none (d j) (λ u l p. spare u l (p ∙ ap d (sym e))))
-      point j (no e) = omega (arith, only-elsewhere z one j e, uses-once (d j))
+      point : (j : ℕ) → Dec (z ≡ j) → uses (d j) + only z ones j ≤ 1
+      point j (yes e) = unfold ones in omega (arith, only-there z ones j e, uses-none (d j) (λ u l p. spare u l (p ∙ ap d (sym e))))
+      point j (no e) = omega (arith, only-elsewhere z ones j e, uses-once (d j))
 
 -- n different values among n places: every place is met
 pub pigeonhole-onto : (n : ℕ) (c d : ℕ → ℕ) → Injective n c → ((u : ℕ) → u < n → Met n d (c u)) → (z : ℕ) → z < n → Met n c (d z)

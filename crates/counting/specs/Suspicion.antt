@@ -7,7 +7,7 @@ use native.Mathlib.Decide.{ℕ-discrete}
 use native.Mathlib.Omega.{arith}
 use Rattle.counting.specs.Sums.{sum}
 use Rattle.counting.specs.Sums.Laws.{sum-mono, sum-cong, sum-term}
-use Rattle.counting.specs.Parts.{_⊞_, sum-⊞, one, sum-ones, only, sum-only-one, only-there, only-elsewhere, sum-only}
+use Rattle.counting.specs.Parts.{_⊞_, sum-⊞, ones, sum-ones, only, sum-only-one, only-there, only-elsewhere, sum-only}
 use Rattle.counting.specs.Degrees.{degree, total, Symmetric}
 
 -- the entries of a column
@@ -26,19 +26,19 @@ module _ (n : ℕ) (F s : ℕ → ℕ → ℕ) (same : Symmetric F) (Y Z d : ℕ
     (suspect-false : (x : ℕ) → x < n → x ≢ Y → x ≢ d → 1 ≤ s d x + degree n F x) where
   -- two for each member, against what it adds to the two totals; what Y, Z and d add besides cancels
   abbrev low : ℕ → ℕ
-  low = one ⊞ one ⊞ only d (degree n s) ⊞ only Y (degree n F) ⊞ only Z (degree n F)
+  low = ones ⊞ ones ⊞ only d (degree n s) ⊞ only Y (degree n F) ⊞ only Z (degree n F)
 
   abbrev high : ℕ → ℕ
-  high = degree n s ⊞ s d ⊞ degree n F ⊞ column F Y ⊞ column F Z ⊞ only Y one ⊞ only Z one
+  high = degree n s ⊞ s d ⊞ degree n F ⊞ column F Y ⊞ column F Z ⊞ only Y ones ⊞ only Z ones
 
   point : (x : ℕ) → x < n → Dec (Y ≡ x) → Dec (Z ≡ x) → Dec (d ≡ x) → low x ≤ high x
-  unfolding _⊞_ column one
+  unfolding _⊞_ column ones
   point x l (yes p) (yes q) r = absurd (ZY (q ∙ sym p))
   point x l (yes p) (no q) (yes r) = absurd (dY (r ∙ sym p))
   point x l (yes p) (no q) (no r) = omega (
     arith,
     only-there Y (degree n F) x p,
-    only-there Y one x p,
+    only-there Y ones x p,
     only-elsewhere d (degree n s) x r,
     only-elsewhere Z (degree n F) x q,
     ap (λ v. F v Z) p,
@@ -47,7 +47,7 @@ module _ (n : ℕ) (F s : ℕ → ℕ → ℕ) (same : Symmetric F) (Y Z d : ℕ
   point x l (no p) (yes q) (yes r) = omega (
     arith,
     only-elsewhere Y (degree n F) x p,
-    only-there Z one x q,
+    only-there Z ones x q,
     only-there d (degree n s) x r,
     only-there Z (degree n F) x q,
     ap (λ v. F v Y) q,
@@ -55,7 +55,7 @@ module _ (n : ℕ) (F s : ℕ → ℕ → ℕ) (same : Symmetric F) (Y Z d : ℕ
   point x l (no p) (yes q) (no r) = omega (
     arith,
     only-elsewhere Y (degree n F) x p,
-    only-there Z one x q,
+    only-there Z ones x q,
     only-elsewhere d (degree n s) x r,
     only-there Z (degree n F) x q,
     ap (λ v. F v Y) q,

@@ -1,4 +1,4 @@
-// What a base does once it has accepted a message: the vote, the prime check, the secondary check.
+// What a base decides once it has accepted a message: the vote, the prime check, the secondary check.
 use checks::is_prime;
 use checks::is_secondary;
 use checks::is_vote;

@@ -1,10 +1,12 @@
 // The identifiers of a body, four bytes each, high byte first.
 use limits::IDENTIFIER_BYTES;
 use limits::MOST_BASES;
+use parts::part;
 ghost use mathlib.Core.Path.{_≡_};
 ghost use Prim.Native.Nat.{_+_, _*_, _≤_};
 ghost use lib.ListN.{length, drop};
 ghost use Rattle.frame.specs.Reading.{identifier};
+ghost use Rattle.parts.specs.Parts.{partOf};
 ghost use Rattle.decoding.specs.Decoding.{idArray};
 
 // The number of four bytes.
@@ -22,7 +24,7 @@ fn identifier_at(s: &[u8], at: usize) -> u32
 }
 
 // The identifiers in an array of their room, with zeros behind them.
-pub fn identifiers(body: &[u8]) -> [u32; MOST_BASES]
+pub fn id_array(body: &[u8]) -> [u32; MOST_BASES]
     ensures { λ r. ⌜ r ≡ idArray (now (body .entry)) ⌝ }
 {
     let mut ids = [0u32; MOST_BASES];
@@ -35,4 +37,11 @@ pub fn identifiers(body: &[u8]) -> [u32; MOST_BASES]
         i += 1;
     }
     ids
+}
+
+// The same of so many identifiers of a burst, from a place on.
+pub fn identifiers_at(burst: &[u8], start: usize, count: u8) -> [u32; MOST_BASES]
+    ensures { λ r. ⌜ r ≡ idArray (partOf (now (burst .entry)) start (4 * count)) ⌝ }
+{
+    id_array(part(burst, start, IDENTIFIER_BYTES * (count as usize)))
 }

@@ -2,7 +2,7 @@
 use event_forms::event_line;
 use events::Reached;
 use faulty_links::Faulty;
-use hex_bytes::hex_bytes;
+use hex_bytes::hex_array;
 use limits::MOST_BASES;
 use limits::refusal::FORM;
 use line_places::places_of;
@@ -36,7 +36,7 @@ fn forge_bytes(
     requires { ⌜ (count ≤ longestForgery) × (2 * count ≤ length (drop at (now s))) ⌝ }
     ensures { λ r. ⌜ r ≡ forgedTo receiver (pairsOf faulty) a b (hexBytes count (drop at (now (s .entry)))) ⌝ }
 {
-    let bytes = hex_bytes(s, at, count);
+    let bytes = hex_array(s, at, count);
     events::forge(receiver, faulty, a, b, &bytes[..count])
 }
 

@@ -37,10 +37,10 @@ pub fn carry(sender: Node, receiver: Node, faulty: Faulty, a: u8, b: u8, k: usiz
 }
 
 // A burst arrives at b as if from a.
-pub fn forge(receiver: Node, links: Faulty, a: u8, b: u8, burst: &[u8]) -> Reached
-    ensures { λ r. ⌜ r ≡ forgedTo receiver (pairsOf links) a b (now (burst .entry)) ⌝ }
+pub fn forge(receiver: Node, faulty: Faulty, a: u8, b: u8, burst: &[u8]) -> Reached
+    ensures { λ r. ⌜ r ≡ forgedTo receiver (pairsOf faulty) a b (now (burst .entry)) ⌝ }
 {
-    if is_good(links, a, b) {
+    if is_good(faulty, a, b) {
         return Reached {
             refusal: refusal::FORGED_ON_GOOD,
             node: receiver,

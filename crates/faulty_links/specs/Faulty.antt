@@ -10,7 +10,6 @@ use Rattle.protocol.specs.Net as Nets
 use Rattle.faulty_links.specs.declared.FaultyLink.{FaultyLink}
 use Rattle.faulty_links.specs.declared.Faulty.{Faulty}
 pub mod Pairs
-pub mod Limit
 
 abbrev pub faultyRoom : ℕ
 faultyRoom = mostFaulty mostBases

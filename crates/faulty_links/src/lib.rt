@@ -1,13 +1,11 @@
 // The links that are named faulty.
 use limits::MOST_FAULTY;
-use limits::refusal::FAULTY_LINKS;
 use lists::least;
 ghost use mathlib.Core.Path.{_≡_};
 ghost use lib.Dec.{eqb};
 ghost use Rattle.lists.specs.Choice.{and};
 ghost use Rattle.protocol.specs.Net.{joins, good};
-ghost use Rattle.faulty_links.specs.Faulty.{pairOf, pairsOf, noFaulty, markedFaulty};
-ghost use Rattle.schedule.specs.Header.{faultyRefusal};
+ghost use Rattle.faulty_links.specs.Faulty.{pairOf, pairsOf, noFaulty};
 
 // A link by its two bases.
 pub struct FaultyLink {
@@ -54,16 +52,6 @@ pub fn is_good(faulty: Faulty, a: u8, b: u8) -> bool
     true
 }
 
-// Number 15, or 0 where one link more may be named.
-pub fn faulty_refusal(faulty: Faulty, t: u8) -> u8
-    ensures { λ r. ⌜ r ≡ faultyRefusal t (pairsOf faulty) ⌝ }
-{
-    if (t as usize) <= least(faulty.count, MOST_FAULTY) {
-        return FAULTY_LINKS;
-    }
-    0
-}
-
 // No link is named.
 pub fn no_faulty() -> Faulty
     ensures { λ r. ⌜ r ≡ noFaulty ⌝ }
@@ -73,19 +61,4 @@ pub fn no_faulty() -> Faulty
         count: 0,
         pairs: [pair; MOST_FAULTY],
     }
-}
-
-// The link between a and b is named besides, while there is room.
-pub fn with_faulty(faulty: Faulty, a: u8, b: u8) -> Faulty
-    ensures { λ r. ⌜ r ≡ markedFaulty faulty a b ⌝ }
-{
-    let count = faulty.count;
-    if MOST_FAULTY <= count {
-        return faulty;
-    }
-    let pair = FaultyLink { one: a, other: b };
-    let mut after = faulty;
-    after.pairs[count] = pair;
-    after.count = count + 1;
-    after
 }

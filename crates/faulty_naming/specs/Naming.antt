@@ -8,6 +8,7 @@ use Rattle.schedule.specs.Header.{faultyRefusal}
 use Rattle.faulty_links.specs.declared.Faulty.{Faulty}
 use Rattle.faulty_links.specs.Faulty.{pairsOf, markedFaulty}
 use Rattle.faulty_naming.specs.declared.FaultyNamed.{FaultyNamed}
+pub mod Limit
 pub mod Laws
 
 unfoldable pub namingRefusal : ℕ → Faulty → ℕ → ℕ → ℕ

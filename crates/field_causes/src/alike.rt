@@ -1,5 +1,5 @@
 // Lines that say the same.
-use line_fields::forms::kind_of;
+use line_fields::forms::line_kind;
 use line_fields::line::fields_from;
 use line_fields::line::is_same;
 use line_fields::line::line_at;
@@ -7,7 +7,7 @@ use parts::plus;
 
 // Whether two lines have one word, and are the same from a field on.
 fn alike(one: &[u8], other: &[u8], from: usize) -> bool {
-    if kind_of(one) != kind_of(other) {
+    if line_kind(one) != line_kind(other) {
         return false;
     }
     is_same(fields_from(one, from), fields_from(other, from))

@@ -5,9 +5,9 @@ pub mod alike;
 use crate::alike::first_alike;
 use cause_text::cause::Cause;
 use cause_text::cause::counted;
+use cause_text::cause::first_cause;
 use cause_text::cause::of_byte;
 use cause_text::cause::of_field;
-use cause_text::cause::or;
 use cause_text::cause::said;
 use cause_text::sentences;
 use cause_text::sentences::NONE;
@@ -17,8 +17,8 @@ use line_fields::bytes::NO_DIGIT;
 use line_fields::bytes::NO_HEX_DIGIT;
 use line_fields::bytes::SPACE;
 use line_fields::bytes::behind;
-use line_fields::bytes::place_behind;
-use line_fields::bytes::place_of;
+use line_fields::bytes::first_place;
+use line_fields::bytes::nth_place;
 use line_fields::bytes::spaces;
 use line_fields::forms::CARRY;
 use line_fields::forms::FAULTY;
@@ -36,7 +36,7 @@ use text::number::number_at;
 
 // What keeps a field that is there from being a decimal number without leading zeros, at most 4,294,967,295.
 fn number_fault(bytes: &[u8]) -> usize {
-    if place_of(bytes, NO_DIGIT) < bytes.len() {
+    if first_place(bytes, NO_DIGIT) < bytes.len() {
         return sentences::NOT_DIGITS;
     }
     if bytes.len() == 0 {
@@ -70,7 +70,7 @@ pub fn hex_hint(kind: usize, line: &[u8], n: usize) -> Cause {
         return said(NONE);
     }
     if 3 < count {
-        return of_byte(sentences::HEX_TOGETHER, line, place_behind(line, SPACE, 3));
+        return of_byte(sentences::HEX_TOGETHER, line, nth_place(line, SPACE, 3));
     }
     if count == 2 {
         if is_base(line, 2, n) {
@@ -83,10 +83,10 @@ pub fn hex_hint(kind: usize, line: &[u8], n: usize) -> Cause {
 // A digit of hex that there is not.
 fn hex_digit(line: &[u8]) -> Cause {
     let digits = field(line, 3);
-    let place = place_of(digits, NO_HEX_DIGIT);
-    let mut sentence = sentences::NO_HEX_DIGIT;
-    if place_of(digits, CAPITAL_DIGIT) == place {
-        sentence = sentences::CAPITAL_DIGIT;
+    let place = first_place(digits, NO_HEX_DIGIT);
+    let mut sentence = sentences::NOT_HEX;
+    if first_place(digits, CAPITAL_DIGIT) == place {
+        sentence = sentences::CAPITAL_HEX;
     }
     of_byte(sentence, line, plus(behind(line, SPACE, 3), place))
 }
@@ -104,7 +104,7 @@ fn hex_length(length: usize) -> Cause {
 
 fn third(kind: usize, line: &[u8]) -> Cause {
     if kind == FORGE {
-        return or(hex_digit(line), hex_length(field(line, 3).len()));
+        return first_cause(hex_digit(line), hex_length(field(line, 3).len()));
     }
     decimal(line, 3)
 }
@@ -118,9 +118,9 @@ fn base(line: &[u8], i: usize, n: usize) -> Cause {
 
 // Two different bases of the net.
 fn bases(line: &[u8], n: usize) -> Cause {
-    let both = or(base(line, 1, n), base(line, 2, n));
+    let both = first_cause(base(line, 1, n), base(line, 2, n));
     if value(line, 1) == value(line, 2) {
-        return or(both, said(sentences::SAME_BASE));
+        return first_cause(both, said(sentences::SAME_BASE));
     }
     both
 }
@@ -150,7 +150,7 @@ fn id(line: &[u8], number: usize, n: usize) -> Cause {
         return of_field(sentences::OTHER_BASE, 1, between(0, number));
     }
     let again = of_field(sentences::ID_AGAIN, 1, plus(value(line, 1), 1));
-    or(base(line, 1, n), again)
+    first_cause(base(line, 1, n), again)
 }
 
 // The fields together, and held against the net.
@@ -158,16 +158,19 @@ fn together(kind: usize, s: &[u8], line: &[u8], number: usize, n: usize) -> Caus
     match kind {
         NET => said(NONE),
         ID => id(line, number, n),
-        FAULTY => or(bases(line, n), faulty(s, line)),
+        FAULTY => first_cause(bases(line, n), faulty(s, line)),
         START => base(line, 1, n),
-        CARRY => or(bases(line, n), said(sentences::NUMBER_ZERO)),
+        CARRY => first_cause(bases(line, n), said(sentences::NUMBER_ZERO)),
         _ => bases(line, n),
     }
 }
 
 // Each field by itself.
 fn each(kind: usize, line: &[u8]) -> Cause {
-    or(decimal(line, 1), or(decimal(line, 2), third(kind, line)))
+    first_cause(
+        decimal(line, 1),
+        first_cause(decimal(line, 2), third(kind, line)),
+    )
 }
 
 // Of the line of that number, in a net of n.
@@ -176,5 +179,5 @@ pub fn field_cause(kind: usize, s: &[u8], line: &[u8], number: usize, n: usize) 
     if count != asked(kind) {
         return counted(sentences::FIELD_COUNT, count);
     }
-    or(each(kind, line), together(kind, s, line, number, n))
+    first_cause(each(kind, line), together(kind, s, line, number, n))
 }

@@ -5,17 +5,17 @@ mod encoding;
 use crate::encoding::encoding;
 use cause_text::cause::Cause;
 use cause_text::cause::counted;
+use cause_text::cause::first_cause;
 use cause_text::cause::of_byte;
 use cause_text::cause::of_field;
-use cause_text::cause::or;
 use cause_text::cause::said;
 use cause_text::sentences;
 use cause_text::sentences::NONE;
 use line_fields::bytes::COMMENT;
 use line_fields::bytes::NOT_PRINTING;
 use line_fields::bytes::SPACE;
+use line_fields::bytes::first_place;
 use line_fields::bytes::odd_space;
-use line_fields::bytes::place_of;
 use line_fields::bytes::spaces;
 use line_fields::forms::FAULTY;
 use line_fields::forms::FORGE;
@@ -45,7 +45,7 @@ fn odd_byte(b: u8) -> usize {
 }
 
 fn odd_bytes(line: &[u8]) -> Cause {
-    let place = place_of(line, NOT_PRINTING);
+    let place = first_place(line, NOT_PRINTING);
     if line.len() <= place {
         return said(NONE);
     }
@@ -138,16 +138,16 @@ fn misplaced(kind: usize, number: usize, n: usize, faulty: usize) -> Cause {
 
 // Of a line that begins at a place.
 pub fn byte_cause(s: &[u8], line: &[u8], at: usize) -> Cause {
-    let comment = of_byte(sentences::NO_COMMENTS, line, place_of(line, COMMENT));
-    let bytes = or(comment, or(odd_bytes(line), unended(s, line, at)));
-    or(encoding(s, at), bytes)
+    let comment = of_byte(sentences::NO_COMMENTS, line, first_place(line, COMMENT));
+    let bytes = first_cause(comment, first_cause(odd_bytes(line), unended(s, line, at)));
+    first_cause(encoding(s, at), bytes)
 }
 
 pub fn space_cause(kind: usize, line: &[u8]) -> Cause {
-    or(space_before(line), last_space(kind, line))
+    first_cause(space_before(line), last_space(kind, line))
 }
 
 // Of the line of that number, in a net of n with so many faulty links.
 pub fn word_cause(kind: usize, line: &[u8], number: usize, n: usize, faulty: usize) -> Cause {
-    or(unknown(kind, line), misplaced(kind, number, n, faulty))
+    first_cause(unknown(kind, line), misplaced(kind, number, n, faulty))
 }

@@ -1,5 +1,5 @@
 // The fields of a line of vectors, for numbers up to the largest and for more bytes than a burst may have.
-use hex_bytes::hex_bytes;
+use hex_bytes::hex_array;
 use limits::LIST_ROOM;
 use limits::LONGEST_BURST;
 use line_fields::bytes::spaces;
@@ -52,7 +52,7 @@ fn identifier(line: &[u8], i: usize) -> u32 {
 
 // The byte in hexadecimal behind so many others.
 fn byte_at(digits: &[u8], i: usize) -> u8 {
-    let byte = hex_bytes(digits, plus(i, i), 1);
+    let byte = hex_array(digits, plus(i, i), 1);
     byte[0]
 }
 

@@ -35,7 +35,7 @@ fn message(reading: Reading, body: &[u8]) {
     match reading {
         Reading::Message { kind, count, start } => {
             with_numbers(b" kind # at #", [kind as usize, start, 0]);
-            each_identifier(decoding::identifiers(body), count);
+            each_identifier(decoding::id_array(body), count as usize);
         }
         Reading::Refused(r) => with_numbers(b" refused #", [r as usize, 0, 0]),
     }
@@ -44,7 +44,7 @@ fn message(reading: Reading, body: &[u8]) {
 // The number of the check, the body, and the reading, of a burst in a net of n bases.
 pub(crate) fn reading(n: usize, burst: &[u8]) {
     number(bursts::check(n, burst) as usize);
-    let body = stretch::body(n, burst);
+    let body = stretch::stretch(n, burst);
     bytes(body);
     message(reader::read(n, burst), body);
     text(b"\n");

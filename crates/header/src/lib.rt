@@ -1,6 +1,6 @@
 // The header of a schedule, read line by line into a small value, from which the net is made once.
 use base_identifiers::id_refusal;
-use base_identifiers::with_id;
+use base_identifiers::named_ids;
 use faulty_form::faulty_line;
 use faulty_links::Faulty;
 use faulty_links::no_faulty;
@@ -99,7 +99,7 @@ fn id_step(s: &[u8], b: u8, header: Header) -> Header
         return refuse(header, refusal);
     }
     let faulty = header.faulty;
-    onward(header, with_id(ids, b, v), faulty, next)
+    onward(header, named_ids(ids, b, v), faulty, next)
 }
 
 // `id b v` for b = 1 to n

@@ -45,7 +45,7 @@ fn pairs_from(s: &[u8], at: usize) -> usize
 }
 
 // The bytes at a position, so many of them, zeros behind. Bytes stand only where the text has two digits for each.
-pub fn hex_bytes(s: &[u8], at: usize, count: usize) -> [u8; LONGEST_FORGERY]
+pub fn hex_array(s: &[u8], at: usize, count: usize) -> [u8; LONGEST_FORGERY]
     ensures { λ r. ⌜ r ≡ hexArray (now (s .entry)) at count ⌝ }
 {
     let mut bytes = [0u8; LONGEST_FORGERY];

@@ -7,11 +7,12 @@ use libc::STDOUT_FILENO;
 use limits::LONGEST_SCHEDULE;
 use parts::part;
 use replay::REPORT_ROOM;
+use replay::roster_replay;
 
 // Whether the report is written.
 fn report(schedule: &[u8]) -> bool {
     let mut report = [0u8; REPORT_ROOM];
-    let end = replay::replay(schedule, &mut report);
+    let end = roster_replay(schedule, &mut report);
     io::write_all(STDOUT_FILENO, part(&report, 0, end))
 }
 

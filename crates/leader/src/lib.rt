@@ -3,7 +3,7 @@ use leader_rule::leader_of;
 use protocol::Base;
 use protocol::Leader;
 use protocol::PRIME;
-use soundness::refusals::record_refusal;
+use record_refusals::record_refusal;
 ghost use mathlib.Core.Path.{_≡_};
 ghost use Rattle.protocol.specs.Steps.{leaderAnswer};
 

@@ -37,7 +37,7 @@ fn is_wanted(b: u8, wanted: u8) -> bool {
 }
 
 // The place of such a byte behind so many others of them, or the length where there is none.
-pub fn place_behind(bytes: &[u8], wanted: u8, count: usize) -> usize {
+pub fn nth_place(bytes: &[u8], wanted: u8, count: usize) -> usize {
     let mut left = count;
     let mut i: usize = 0;
     while i < bytes.len() {
@@ -53,8 +53,8 @@ pub fn place_behind(bytes: &[u8], wanted: u8, count: usize) -> usize {
 }
 
 // The first place of such a byte, or the length where there is none.
-pub fn place_of(bytes: &[u8], wanted: u8) -> usize {
-    place_behind(bytes, wanted, 0)
+pub fn first_place(bytes: &[u8], wanted: u8) -> usize {
+    nth_place(bytes, wanted, 0)
 }
 
 // The place behind so many such bytes, past the end where there are fewer.
@@ -62,7 +62,7 @@ pub fn behind(bytes: &[u8], wanted: u8, count: usize) -> usize {
     if count == 0 {
         return 0;
     }
-    plus(place_behind(bytes, wanted, count - 1), 1)
+    plus(nth_place(bytes, wanted, count - 1), 1)
 }
 
 pub fn spaces(line: &[u8]) -> usize {

@@ -42,7 +42,7 @@ pub fn asked(kind: usize) -> usize {
 }
 
 // Which line it is by its word; 0 where there is no such word.
-pub fn kind_of(line: &[u8]) -> usize {
+pub fn line_kind(line: &[u8]) -> usize {
     let mut kind: usize = 0;
     while kind < FORGE {
         kind += 1;

@@ -2,7 +2,7 @@
 use crate::bytes::LINE_FEED;
 use crate::bytes::SPACE;
 use crate::bytes::behind;
-use crate::bytes::place_of;
+use crate::bytes::first_place;
 use parts::part;
 use text::number::Number;
 use text::number::number_at;
@@ -12,7 +12,7 @@ use words::word_at;
 // The line that begins at a place, without its line feed.
 pub fn line_at<'a>(s: &'a [u8], at: usize) -> &'a [u8] {
     let rest = part(s, at, s.len());
-    part(rest, 0, place_of(rest, LINE_FEED))
+    part(rest, 0, first_place(rest, LINE_FEED))
 }
 
 // Row i of a table, which has a line a row.
@@ -28,7 +28,7 @@ pub fn fields_from<'a>(line: &'a [u8], i: usize) -> &'a [u8] {
 // Field 0 is the line's word.
 pub fn field<'a>(line: &'a [u8], i: usize) -> &'a [u8] {
     let rest = fields_from(line, i);
-    part(rest, 0, place_of(rest, SPACE))
+    part(rest, 0, first_place(rest, SPACE))
 }
 
 pub fn is_same(one: &[u8], other: &[u8]) -> bool {

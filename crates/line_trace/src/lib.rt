@@ -3,10 +3,10 @@ pub mod line;
 
 use crate::line::show_line;
 use arrival_text::Arrival;
-use call_trace::arrival_call;
-use call_trace::start_call;
+use call_trace::show_arrival;
+use call_trace::show_start;
 use event_forms::event_line;
-use hex_bytes::hex_bytes;
+use hex_bytes::hex_array;
 use lines::event::Line;
 use net::StoredNet;
 use net::nodes::node_at;
@@ -25,12 +25,12 @@ fn arrival_from(a: u8, b: u8, forged: bool) -> Arrival {
 
 fn starts(net: StoredNet, b: u8) {
     let node = node_at(net, b);
-    start_call(b, node.base, node.count);
+    show_start(b, node.base, node.count);
 }
 
 fn arrives(net: StoredNet, b: u8, arrival: Arrival, burst: &[u8]) {
     let node = node_at(net, b);
-    arrival_call(b, node.base, node.count, arrival, burst);
+    show_arrival(b, node.base, node.count, arrival, burst);
 }
 
 // Broadcast k of base a.
@@ -43,7 +43,7 @@ fn carried(net: StoredNet, a: u8, b: u8, k: usize) {
 
 // A forgery whose bytes stand in the schedule.
 fn forged(s: &[u8], net: StoredNet, a: u8, b: u8, at: usize, count: usize) {
-    let bytes = hex_bytes(s, at, count);
+    let bytes = hex_array(s, at, count);
     let burst = part(&bytes, 0, count);
     arrives(net, b, arrival_from(a, b, true), burst);
 }

@@ -30,7 +30,7 @@ fn held_sound(n: u8, link: Link) -> bool
     let kind = link.held;
     let list = link.list;
     match kind {
-        0 => zero_behind(&list, 0),
+        HELD_NOTHING => zero_behind(&list, 0),
         HELD_CORRECT_FINAL => list_sound(n, list),
         HELD_VERIFY_FINAL => list_sound(n, list),
         _ => false,

@@ -9,7 +9,7 @@ ghost use Rattle.counting.specs.Sums.{bit, sum};
 ghost use Rattle.node.specs.Node.{heardBy};
 
 // Whether a's k-th broadcast was carried to this base.
-pub fn heard(node: Node, a: u8, k: usize) -> bool
+pub fn heard_by(node: Node, a: u8, k: usize) -> bool
     ensures { λ r. ⌜ r ≡ heardBy node a k ⌝ }
 {
     let from = a as usize;
@@ -35,7 +35,7 @@ pub fn unheard(node: Node, a: u8, count: usize) -> usize
     let mut total: usize = 0;
     let mut i: usize = 0;
     while i < count {
-        if !heard(node, a, i + 1) {
+        if !heard_by(node, a, i + 1) {
             total += 1;
         }
         i += 1;

@@ -19,7 +19,7 @@ fn say_broadcast(b: u8, n: u8, number: usize, frame: &[u8]) {
         return;
     }
     with_numbers(b"  base # broadcasts #: ", [b as usize, number, 0]);
-    say::message(n, frame);
+    say::burst_message(n, frame);
     output::text(b"\n");
 }
 

@@ -1,5 +1,4 @@
 // Pieces of the trace, written to standard output as they come.
-use c_reading::read_numbers;
 use frame::kind::ANNOUNCE;
 use frame::kind::CORRECT_FINAL;
 use frame::kind::VERIFY;
@@ -7,6 +6,7 @@ use limits::MOST_BASES;
 use output::number;
 use output::text;
 use output::with_numbers;
+use readings::read_numbers;
 
 fn identifier(g: u32) {
     with_numbers(b" #", [g as usize, 0, 0]);
@@ -49,7 +49,7 @@ fn kind_word(kind: u8) {
 }
 
 // The message of a burst that is fit.
-pub fn message(n: u8, burst: &[u8]) {
+pub fn burst_message(n: u8, burst: &[u8]) {
     let taken = read_numbers(n as usize, burst);
     let ids = taken.ids;
     kind_word(taken.kind);

@@ -25,7 +25,7 @@ fn idle_nodes(n: u8, t: u8, ids: [u32; MOST_BASES]) -> [Node; MOST_BASES]
 }
 
 // The net that a header gives.
-pub fn begun(header: Header) -> StoredNet
+pub fn begun_net(header: Header) -> StoredNet
     ensures { λ r. ⌜ r ≡ begunNet header ⌝ }
 {
     let ids = header.ids;

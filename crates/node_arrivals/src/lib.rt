@@ -1,8 +1,6 @@
 // A burst arrives at a base of the program's net: its reading is taken apart, and what was read arrives.
-use decoding::identifiers;
-use limits::IDENTIFIER_BYTES;
+use decoding::identifiers_at;
 use limits::LONGEST_FRAME;
-use limits::MOST_BASES;
 use marking::mark;
 use node::Frame;
 use node::Node;
@@ -16,14 +14,6 @@ ghost use Rattle.limits.specs.Limits.{longestBurst};
 ghost use Rattle.decoding.specs.Decoding.{idArray};
 ghost use Rattle.node.specs.Node.{written};
 ghost use Rattle.node_arrivals.specs.Arrivals.{heardBurst};
-
-// So many identifiers, from a place of the burst on.
-fn identifiers_at(burst: &[u8], start: usize, count: usize) -> [u32; MOST_BASES]
-    requires { ⌜ (start + 4 * count ≤ length (now burst)) × (length (now burst) ≤ longestBurst) ⌝ }
-    ensures { λ r. ⌜ r ≡ idArray (take (start + 4 * count - start) (drop start (now (burst .entry)))) ⌝ }
-{
-    identifiers(&burst[start..start + IDENTIFIER_BYTES * count])
-}
 
 // A burst that is not turned down is marked as a's k-th broadcast; 0 marks nothing.
 pub fn hear_burst(node: Node, link: usize, burst: &[u8], a: u8, k: usize) -> Node

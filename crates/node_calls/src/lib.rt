@@ -2,7 +2,7 @@
 // join the base's broadcasts.
 use c_answers::outcome_numbers;
 use change::Change;
-use change::changed;
+use change::changed_base;
 use keeping::keep_three;
 use limits::MOST_BASES;
 use limits::OUTPUT_ROOM;
@@ -12,7 +12,7 @@ ghost use lib.ListN.{length};
 ghost use Rattle.limits.specs.Limits.{outputRoom};
 ghost use Rattle.protocol.specs.Steps as Steps;
 ghost use Rattle.change.specs.Change.{changedBase};
-ghost use Rattle.engine.specs.Hearing.{messageArrival};
+ghost use Rattle.hearing.specs.Hearing.{messageArrival};
 ghost use Rattle.node_calls.specs.Calls.{nodeAnswer, Fitting, writtenAnswer};
 
 // A base after a call on its record, beside the number by which the call was turned down, 0 for none.
@@ -26,7 +26,7 @@ fn answered(node: Node, change: Change, out: &[u8]) -> NodeAnswer
     requires { ⌜ Fitting (change .outcome) (length (now out)) ⌝ }
     ensures { λ r. ⌜ r ≡ writtenAnswer node (changedBase (node .base) change) (change .outcome) (now (out .entry)) ⌝ }
 {
-    let base = changed(node.base, change);
+    let base = changed_base(node.base, change);
     let outcome = change.outcome;
     let answer = outcome_numbers(outcome);
     NodeAnswer {
@@ -40,15 +40,15 @@ pub fn start_node(node: Node) -> NodeAnswer
     ensures { λ r. ⌜ r ≡ nodeAnswer node (Steps.start (node .base) outputRoom) ⌝ }
 {
     let mut out = [0u8; OUTPUT_ROOM];
-    let change = start_call::start(node.base, &mut out);
+    let change = starting::start(node.base, &mut out);
     answered(node, change, &out)
 }
 
 // A message that was read arrives at the base on a link: its kind, and its identifiers with zeros behind.
 pub fn hear_message(node: Node, link: usize, kind: u8, ids: [u32; MOST_BASES]) -> NodeAnswer
-    ensures { λ r. ⌜ r ≡ nodeAnswer node (messageArrival (node .base) link kind ids outputRoom) ⌝ }
+    ensures { λ r. ⌜ r ≡ nodeAnswer node (messageArrival (node .base) link 0 kind ids outputRoom) ⌝ }
 {
     let mut out = [0u8; OUTPUT_ROOM];
-    let change = engine::changes::hear(node.base, link, kind, ids, &mut out);
+    let change = hearing::hear(node.base, link, 0, kind, ids, &mut out);
     answered(node, change, &out)
 }

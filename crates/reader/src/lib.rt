@@ -7,11 +7,7 @@ ghost use Rattle.reader.specs.Answers.{readingOf};
 // What a reading answers: the message's kind, the count of its identifiers and where they start in the burst, or the number by
 // which the burst is turned down.
 pub enum Reading {
-    Message {
-        kind: u8,
-        count: usize,
-        start: usize,
-    },
+    Message { kind: u8, count: u8, start: usize },
     Refused(u8),
 }
 
@@ -27,10 +23,6 @@ pub fn read(n: usize, burst: &[u8]) -> Reading
     let len = burst.len();
     let kind = burst[len - 4];
     let count = burst[len - 3];
-    let back = frame_bytes(count);
-    Reading::Message {
-        kind,
-        count: count as usize,
-        start: len - back,
-    }
+    let start = len - frame_bytes(count);
+    Reading::Message { kind, count, start }
 }

@@ -1,4 +1,5 @@
-// One call from a schedule's bytes to the report: the state of every base at the end, or the first line that is turned down.
+// One call from a schedule's bytes to the report: the state of every base at the end, or the first line that is turned down. C calls it too
+// (include/roster.h): a slice is a pointer and a length there.
 mod output;
 
 use crate::output::put_report;
@@ -18,7 +19,8 @@ pub const REPORT_ROOM: usize = (MOST_BASES + 1) * LINE_ROOM;
 
 // The report of a schedule at the front of an output, and its length. An output with less room than any report may take is left
 // alone, and the length is 0.
-pub fn replay(schedule: &[u8], out: &mut [u8]) -> usize
+#[no_mangle]
+pub extern "C" fn roster_replay(schedule: &[u8], out: &mut [u8]) -> usize
     ensures { λ r. ⌜ r ≡ replayLength (now (schedule .entry)) (now (out .entry)) ⌝ }
     ensures { λ r. ⌜ now (out .exit) ≡ replayOutput (now (schedule .entry)) (now (out .entry)) ⌝ }
     ensures { λ r. ⌜ r ≤ length (now (out .entry)) ⌝ }

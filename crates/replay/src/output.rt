@@ -2,7 +2,7 @@
 use base_lines::base_lines;
 use event_lines::line_steps;
 use net::Header;
-use net::made::begun;
+use net::made::begun_net;
 use report::refused_line;
 use report::waiting_line;
 use waiting::waiting;
@@ -28,7 +28,7 @@ pub(crate) fn put_report(s: &[u8], header: Header, out: &mut [u8]) -> usize
     if header.refusal != 0 {
         return refused_line(out, 0, header.refusal, header.line);
     }
-    let net = line_steps(s, begun(header), s.len());
+    let net = line_steps(s, begun_net(header), s.len());
     if net.refusal != 0 {
         return refused_line(out, 0, net.refusal, net.line);
     }

@@ -1,6 +1,6 @@
 // What a base broadcasts at a message, by what it decided, and what is then to be set in its record.
 use accepting::Accepted;
-use broadcasting::broadcast;
+use broadcasting::put_broadcasts;
 use change::Change;
 use deciding::Decision;
 use limits::MOST_BASES;
@@ -28,7 +28,7 @@ fn said(
         };
     }
     let list = decision.final_list;
-    broadcast(n, decision.first, ids, decision.stops, list, out)
+    put_broadcasts(n, decision.first, ids, decision.stops, list, out)
 }
 
 // The frames that the base then broadcasts, at the front of the output, and what is to be set in its record.

@@ -4,11 +4,11 @@ use c_answers::LeaderAnswer;
 use c_answers::WriteAnswer;
 use c_answers::leader_numbers;
 use c_answers::written_numbers;
-use c_reading::ReadAnswer;
-use c_reading::read_numbers;
 use idle::Made;
 use protocol::Base;
-use storing::stored;
+use readings::ReadAnswer;
+use readings::read_numbers;
+use storing::store;
 ghost use mathlib.Core.Path.{_≡_};
 ghost use lib.ListN.{length};
 ghost use Rattle.writer.specs.Writing.{writtenOf, writeOutput};
@@ -19,7 +19,7 @@ ghost use Rattle.change.specs.Change.{DoesAs};
 ghost use Rattle.idle.specs.Made.{madeOf};
 ghost use Rattle.roster_c.specs.Version.{version};
 ghost use Rattle.c_answers.specs.Numbers.{outcomeNumbers, leaderNumbers, writtenNumbers};
-ghost use Rattle.c_reading.specs.ReadNumbers.{readNumbers};
+ghost use Rattle.readings.specs.ReadNumbers.{readNumbers};
 
 // ROSTER_VERSION of include/roster.h.
 const VERSION: u32 = 1;
@@ -38,8 +38,8 @@ pub extern "C" fn roster_start(base: &mut Base, out: &mut [u8]) -> CallAnswer
     ensures { λ r. ⌜ DoesAs outcomeNumbers (start (now (base .entry)) (length (now (out .entry)))) r
         (now (base .exit)) (now (out .entry)) (now (out .exit)) ⌝ }
 {
-    let started = start_call::start(*base, out);
-    stored(base, started)
+    let started = starting::start(*base, out);
+    store(base, started)
 }
 
 // A burst arrives on a link, 1 to n - 1. Turned down by 1 to 12.
@@ -54,7 +54,7 @@ pub extern "C" fn roster_arrive(
         (now (base .exit)) (now (out .entry)) (now (out .exit)) ⌝ }
 {
     let arrived = arriving::arrive(*base, link, burst, out);
-    stored(base, arrived)
+    store(base, arrived)
 }
 
 // The leader that a stopped base names. Turned down by 1 to 4.

@@ -1,6 +1,6 @@
 // What waits, by its numbers: broadcasts that were not carried to a base at the other end of a good link.
 use faulty_links::is_good;
-use marks::heard;
+use marks::heard_by;
 use marks::unheard;
 use net::StoredNet;
 use net::nodes::node_at;
@@ -14,7 +14,7 @@ fn numbers(node: Node, a: u8, count: usize) {
     let mut k: usize = 0;
     while k < count {
         k += 1;
-        if !heard(node, a, k) {
+        if !heard_by(node, a, k) {
             with_numbers(b" #", [k, 0, 0]);
         }
     }

@@ -4,7 +4,7 @@ use event_lines::line_steps;
 use limits::LONGEST_SCHEDULE;
 use line_trace::show_event;
 use net::StoredNet;
-use net::made::begun;
+use net::made::begun_net;
 use schedule_text::refused::explain_event;
 use schedule_text::refused::explain_header;
 use schedule_text::refused::explain_length;
@@ -53,5 +53,5 @@ pub fn show(schedule: &[u8]) {
     if header.refusal != 0 {
         return explain_header(schedule, header);
     }
-    ending(schedule, steps(schedule, begun(header)));
+    ending(schedule, steps(schedule, begun_net(header)));
 }

@@ -1,41 +1,40 @@
-// What an idle base broadcasts at its first message: "An idle base starts first."
-use accepting::Accepted;
-use broadcasting::behind_start;
+// The start of a base, as what it changes. A record goes in by value, and what is to be changed in it comes back beside the answer; frames
+// go into the output that is lent.
+use call_refusals::output_refusal;
 use change::Change;
-use deciding::Decision;
-use limits::MOST_BASES;
-use responding::respond;
+use change::discarded;
+use change::only_state;
+use change::refused;
+use lists::first_of;
+use protocol::Base;
+use protocol::IDLE;
+use protocol::Outcome;
+use protocol::RUNNING;
+use record_refusals::record_refusal;
 use start_frames::begin;
-ghost use mathlib.Core.Path.{_≡_};
 ghost use lib.ListN.{length};
-ghost use Rattle.frame.specs.Encoding.{over};
-ghost use Rattle.starting.specs.Starting.{firstChange, firstFrames};
+ghost use Rattle.protocol.specs.Steps as Steps;
+ghost use Rattle.change.specs.Change.{Does};
 
-// The response to the first message, behind the two frames of the start.
-pub fn respond_first(
-    n: u8,
-    own: u32,
-    i: usize,
-    accepted: Accepted,
-    decision: Decision,
-    ids: [u32; MOST_BASES],
-    out: &mut [u8],
-) -> Change
-    ensures { λ r. ⌜ (r ≡ firstChange n own i accepted decision ids (length (now (out .entry))))
-        × (now (out .exit) ≡ over (firstFrames n own (accepted .accepted) decision ids (length (now (out .entry)))) (now (out .entry))) ⌝ }
+// Starts an idle base: Announce and Verify of its own identifier. Turned down by 1 to 4 and 6.
+pub fn start(base: Base, out: &mut [u8]) -> Change
+    ensures { λ r. ⌜ Does base (Steps.start base (length (now (out .entry)))) r (now (out .entry)) (now (out .exit)) ⌝ }
 {
-    let two = begin(n, own, out);
-    let start = two.front + two.next;
-    let rest = respond(n, i, accepted, decision, ids, &mut out[start..]);
-    let answer = rest.outcome;
-    let link = rest.link;
-    let list = rest.final_list;
-    Change {
-        outcome: behind_start(two.front, two.next, answer),
-        state: rest.state,
-        sent: rest.sent,
-        place: rest.place,
-        link,
-        final_list: list,
+    let turned_down = first_of(record_refusal(base), output_refusal(out.len()));
+    if turned_down != 0 {
+        return refused(base, turned_down);
     }
+    if base.state != IDLE {
+        return discarded(base, base.state);
+    }
+    let two = begin(base.n, base.own, out);
+    only_state(
+        base,
+        RUNNING,
+        Outcome::Accepted {
+            first: two.front,
+            second: two.next,
+            third: 0,
+        },
+    )
 }

@@ -7,7 +7,7 @@ ghost use Prim.Native.Nat.{_+_};
 ghost use Rattle.reader.specs.Answers.{stretchStart, stretch};
 
 // The body as that very stretch of the burst; an empty stretch, at the burst's beginning, where the burst is turned down.
-pub fn body<'a>(n: usize, burst: &'a [u8]) -> &'a [u8]
+pub fn stretch<'a>(n: usize, burst: &'a [u8]) -> &'a [u8]
     ensures { λ r. ⌜ (now r ≡ stretch n (now (burst .entry)))
         × ((r .ptr .0 ≡ burst .entry .ptr .0) × (r .ptr .1 ≡ burst .entry .ptr .1 + stretchStart n (now (burst .entry)))) ⌝ }
 {
@@ -19,5 +19,5 @@ pub fn body<'a>(n: usize, burst: &'a [u8]) -> &'a [u8]
     else {
         return &burst[0..0];
     };
-    &burst[start..start + IDENTIFIER_BYTES * count]
+    &burst[start..start + IDENTIFIER_BYTES * (count as usize)]
 }

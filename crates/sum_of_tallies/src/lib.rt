@@ -1,6 +1,6 @@
 // The sum of the certified identifiers' tallies.
 use certified::certified_ids;
-use counted_links::link_count;
+use counted_links::links_in;
 use counting::one;
 use limits::MOST_BASES;
 use membership::holds;
@@ -37,7 +37,7 @@ fn verified_sum(base: Base, ids: [u32; MOST_BASES], count: usize) -> usize
     ensures { λ r. ⌜ (r ≡ Sums.sum (linkCount base) (λ i. sumOver (take count ids) (λ g. bit (holdsVerify (linkAt base i) g))))
         × (r ≤ mostBases * mostLinks) ⌝ }
 {
-    let k = link_count(base.n);
+    let k = links_in(base.n);
     let mut sum: usize = 0;
     let mut i: usize = 0;
     while i < k {

@@ -5,7 +5,7 @@ use crate::pairs::lacking;
 use crate::pairs::lacks;
 use crate::pairs::more;
 use crate::pairs::separate;
-use counted_links::link_count;
+use counted_links::links_in;
 use numbering::link_at;
 use output::text;
 use parts::plus;
@@ -25,7 +25,7 @@ fn missing_of(b: u8, i: usize, link: Link, named: usize) -> usize {
 }
 
 fn missing(b: u8, base: Base) -> usize {
-    let k = link_count(base.n);
+    let k = links_in(base.n);
     let mut named: usize = 0;
     let mut i: usize = 0;
     while i < k {

@@ -1,5 +1,5 @@
 // The suspect pairs by their identifiers, and what makes each suspect: a link that lacks a Verify of the other.
-use counted_links::link_count;
+use counted_links::links_in;
 use held::has_announce;
 use held_lists::holds_verify;
 use limits::MOST_FAULTY;
@@ -117,7 +117,7 @@ fn pairs_of(b: u8, base: Base, i: usize, before: usize) -> usize {
 }
 
 fn pairs(b: u8, base: Base) -> usize {
-    let k = link_count(base.n);
+    let k = links_in(base.n);
     let mut named: usize = 0;
     let mut i: usize = 0;
     while i < k {

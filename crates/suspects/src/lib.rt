@@ -1,5 +1,5 @@
 // Suspect pairs of certified identifiers.
-use counted_links::link_count;
+use counted_links::links_in;
 use counting::one;
 use held::has_announce;
 use held_lists::holds_verify;
@@ -40,7 +40,7 @@ fn suspect_own(own: u32, link: Link) -> bool
 pub fn suspect_count(base: Base) -> usize
     ensures { λ r. ⌜ r ≡ suspects base ⌝ }
 {
-    let k = link_count(base.n);
+    let k = links_in(base.n);
     let own = base.own;
     let mut count: usize = 0;
     let mut i: usize = 0;

@@ -1,6 +1,6 @@
 // The tally of an identifier.
 use certification::certifies;
-use counted_links::link_count;
+use counted_links::links_in;
 use counting::one;
 use held_lists::holds_verify;
 use protocol::Base;
@@ -14,7 +14,7 @@ ghost use Rattle.protocol.specs.Record.{links, tally};
 fn verify_links(base: Base, g: u32) -> usize
     ensures { λ r. ⌜ (r ≡ links base (λ l. holdsVerify l g)) × (r ≤ mostLinks) ⌝ }
 {
-    let k = link_count(base.n);
+    let k = links_in(base.n);
     let mut count: usize = 0;
     let mut i: usize = 0;
     while i < k {
@@ -25,7 +25,7 @@ fn verify_links(base: Base, g: u32) -> usize
     count
 }
 
-pub fn tally_of(base: Base, g: u32) -> usize
+pub fn tally(base: Base, g: u32) -> usize
     ensures { λ r. ⌜ (r ≡ tally base g) × (r ≤ mostBases) ⌝ }
 {
     verify_links(base, g) + one(certifies(base, g))

@@ -1,5 +1,5 @@
 // The tally of a list.
-use counted_links::link_count;
+use counted_links::links_in;
 use counting::one;
 use held::HELD_CORRECT_FINAL;
 use held::HELD_VERIFY_FINAL;
@@ -16,7 +16,7 @@ ghost use Rattle.protocol.specs.Record.{listTally};
 pub fn list_tally(base: Base, v: [u32; MOST_BASES]) -> usize
     ensures { λ r. ⌜ (r ≡ listTally base (take (base .n) v)) × (r ≤ mostLinks) ⌝ }
 {
-    let k = link_count(base.n);
+    let k = links_in(base.n);
     let mut count: usize = 0;
     let mut i: usize = 0;
     while i < k {

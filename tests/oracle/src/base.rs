@@ -4,6 +4,7 @@ use crate::faults::Fault;
 use crate::limits::{most_faulty, LIST_ROOM, MOST_BASES};
 use crate::reader::{net_size, Number};
 use crate::record::{RawBase, RawLink};
+use crate::refusal;
 use crate::soundness::broken_rules;
 
 #[derive(Clone, Debug, PartialEq, Eq)]
@@ -55,7 +56,7 @@ impl Base {
             broken.remove(&rule);
         }
         if !broken.is_empty() {
-            return Err(4);
+            return Err(refusal::RECORD);
         }
         Ok(Base::of(raw, fault))
     }
@@ -107,14 +108,14 @@ impl Base {
 fn judge_net(n: usize, t: usize, own: u32, fault: Fault) -> Result<(), Number> {
     net_size(n)?;
     if fault == Fault::ThreeBeforeTwo && own == 0 {
-        return Err(3);
+        return Err(refusal::OWN_IDENTIFIER);
     }
     let limit = most_faulty(n) + usize::from(fault == Fault::HigherLimitOfT);
     if t > limit {
-        return Err(2);
+        return Err(refusal::FAULTY_LIMIT);
     }
     if own == 0 {
-        return Err(3);
+        return Err(refusal::OWN_IDENTIFIER);
     }
     Ok(())
 }

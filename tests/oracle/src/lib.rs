@@ -27,6 +27,7 @@ pub mod plan;
 pub mod reach;
 pub mod reader;
 pub mod record;
+pub mod refusal;
 pub mod replay;
 pub mod rng;
 #[path = "../../../include/roster.rs"]

@@ -7,6 +7,7 @@ use crate::limits::{OUTPUT_ROOM, REPORT_ROOM};
 use crate::message::Message;
 use crate::reader::{read, Number};
 use crate::record::RawBase;
+use crate::refusal;
 use crate::replay;
 use crate::steps::Turn;
 use crate::writer;
@@ -22,7 +23,7 @@ impl Model {
     fn room(&self, out: &[u8]) -> Result<(), Number> {
         let needed = if self.fault == Fault::OutputOf135 { OUTPUT_ROOM - 1 } else { OUTPUT_ROOM };
         if out.len() < needed {
-            return Err(6);
+            return Err(refusal::OUTPUT);
         }
         Ok(())
     }
@@ -70,7 +71,7 @@ impl Model {
         if (1..n).contains(&link) {
             Ok(link)
         } else {
-            Err(5)
+            Err(refusal::LINK)
         }
     }
 

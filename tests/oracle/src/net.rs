@@ -7,6 +7,7 @@ use crate::limits::{link_to, OUTPUT_ROOM};
 use crate::message::Kind;
 use crate::reader::Number;
 use crate::record::RawBase;
+use crate::refusal;
 use std::collections::BTreeSet;
 
 /// Bases are numbered from 1.
@@ -96,14 +97,17 @@ impl Net {
             Event::Carry { from, to, k } => {
                 let repeated = self.carried.contains(&(from, to, k)) && self.setting.good(from, to);
                 if k == 0 || k > self.logs[from - 1].len() {
-                    Some(16)
+                    Some(refusal::NOT_BROADCAST)
                 } else if repeated && self.fault != Fault::RepeatAllowedOnGoodLink {
-                    Some(17)
+                    Some(refusal::CARRIED_BEFORE)
                 } else {
                     None
                 }
             }
-            Event::Forge { from, to, .. } => (self.setting.good(from, to) && self.fault != Fault::ForgeryOnGoodLink).then_some(18),
+            Event::Forge { from, to, .. } => {
+                let good = self.setting.good(from, to) && self.fault != Fault::ForgeryOnGoodLink;
+                good.then_some(refusal::FORGED_ON_GOOD)
+            }
         }
     }
 

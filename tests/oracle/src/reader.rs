@@ -3,6 +3,7 @@
 use crate::faults::Fault;
 use crate::limits::{frame_bytes, FEWEST_BASES, LONGEST_BURST, MOST_BASES, SHORTEST_BURST};
 use crate::message::{identifier_of, strictly_ascending, Kind, Message};
+use crate::refusal;
 
 /// A number of document 01's "Turning calls down".
 pub type Number = u8;
@@ -18,7 +19,7 @@ pub fn net_size(n: usize) -> Result<(), Number> {
     if (FEWEST_BASES..=MOST_BASES).contains(&n) {
         Ok(())
     } else {
-        Err(1)
+        Err(refusal::BASES)
     }
 }
 
@@ -26,7 +27,7 @@ pub fn read(n: usize, burst: &[u8], fault: Fault) -> Result<Frame, Number> {
     net_size(n)?;
     let longest = if fault == Fault::BurstOneByteLonger { LONGEST_BURST + 1 } else { LONGEST_BURST };
     if burst.len() < SHORTEST_BURST || burst.len() > longest {
-        return Err(7);
+        return Err(refusal::BURST);
     }
     let (front, trailer) = burst.split_at(burst.len() - 4);
     let kind = Kind::of(trailer[0]);
@@ -34,15 +35,15 @@ pub fn read(n: usize, burst: &[u8], fault: Fault) -> Result<Frame, Number> {
     let distance = u16::from_be_bytes([trailer[2], trailer[3]]) as usize;
     let distance_holds = distance == frame_bytes(count) && distance <= burst.len();
     if fault == Fault::TenBeforeNine && kind.is_some() && !distance_holds {
-        return Err(10);
+        return Err(refusal::BACK_DISTANCE);
     }
-    let kind = kind.ok_or(8)?;
+    let kind = kind.ok_or(refusal::KIND)?;
     if count != kind.count(n) {
-        return Err(9);
+        return Err(refusal::COUNT);
     }
     let let_pass = fault == Fault::DistanceNotRead && frame_bytes(count) <= burst.len();
     if !distance_holds && !let_pass {
-        return Err(10);
+        return Err(refusal::BACK_DISTANCE);
     }
     let start = if fault == Fault::BodyAtTheFront { 0 } else { burst.len() - frame_bytes(count) };
     let body = &front[start..start + 4 * count];
@@ -59,9 +60,9 @@ pub fn judge_identifiers(ids: &[u32], fault: Fault) -> Result<(), Number> {
         _ => !strictly_ascending(ids),
     };
     match (zero, unordered) {
-        (true, true) if fault == Fault::TwelveBeforeEleven => Err(12),
-        (true, _) => Err(11),
-        (false, true) => Err(12),
+        (true, true) if fault == Fault::TwelveBeforeEleven => Err(refusal::NOT_ASCENDING),
+        (true, _) => Err(refusal::ZERO_IDENTIFIER),
+        (false, true) => Err(refusal::NOT_ASCENDING),
         (false, false) => Ok(()),
     }
 }

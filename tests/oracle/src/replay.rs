@@ -6,6 +6,7 @@ use crate::limits::{most_faulty, LONGEST_SCHEDULE, OUTPUT_ROOM};
 use crate::model::Model;
 use crate::net::{Event, Net, Setting};
 use crate::reader::{net_size, Number};
+use crate::refusal;
 use crate::schedule::{lines, parse, Line};
 use std::collections::BTreeSet;
 use std::fmt::Write;
@@ -40,7 +41,7 @@ pub fn watched(schedule: &[u8], fault: Fault, watch: Watch) -> Result<Net, Refus
     let longest = if fault == Fault::LongScheduleRead { LONGEST_SCHEDULE + 1 } else { LONGEST_SCHEDULE };
     let too_long = schedule.len() > longest;
     if too_long && fault != Fault::LongScheduleLast {
-        return Err(Refused { number: 13, line: 1 });
+        return Err(Refused { number: refusal::FORM, line: 1 });
     }
     let mut player = Player { stage: Stage::Net, model: Model { fault }, fault, line: 0, watch };
     for (line, text) in lines(schedule) {
@@ -48,7 +49,7 @@ pub fn watched(schedule: &[u8], fault: Fault, watch: Watch) -> Result<Net, Refus
         let text = match text {
             Ok(text) => text,
             Err(unended) if fault == Fault::LastLineUnended => unended,
-            Err(_) => return Err(Refused { number: 13, line }),
+            Err(_) => return Err(Refused { number: refusal::FORM, line }),
         };
         if text.is_empty() && fault == Fault::EmptyLinesSkipped {
             continue;
@@ -56,10 +57,10 @@ pub fn watched(schedule: &[u8], fault: Fault, watch: Watch) -> Result<Net, Refus
         player.take(text).map_err(|number| Refused { number, line })?;
     }
     if too_long {
-        return Err(Refused { number: 13, line: 1 });
+        return Err(Refused { number: refusal::FORM, line: 1 });
     }
     let missing = if fault == Fault::MissingLineNamedByLast { player.line.max(1) } else { player.line + 1 };
-    player.end().ok_or(Refused { number: 13, line: missing })
+    player.end().ok_or(Refused { number: refusal::FORM, line: missing })
 }
 
 /// Which lines may come next.
@@ -83,13 +84,10 @@ struct Player<'w> {
     watch: Watch<'w>,
 }
 
-/// What stands in for a line that breaks its form.
-const FORM: Number = 13;
-
 impl Player<'_> {
     /// One line: "A line's form comes before its other checks".
     fn take(&mut self, text: &[u8]) -> Result<(), Number> {
-        let line = parse(text, self.fault).ok_or(FORM)?;
+        let line = parse(text, self.fault).ok_or(refusal::FORM)?;
         match (&mut self.stage, line) {
             (Stage::Net, Line::Net { n, t }) => self.stage = begin(n as usize, t as usize, self.fault)?,
             (Stage::Ids { n, ids, .. }, Line::Id { b, v }) => {
@@ -98,7 +96,7 @@ impl Player<'_> {
             }
             (Stage::Faulty(setting), Line::Faulty { a, b }) => take_faulty(setting, a as usize, b as usize, self.fault)?,
             (Stage::Faulty(setting), line @ (Line::Start { .. } | Line::Carry { .. } | Line::Forge { .. })) => {
-                let event = event_of(setting.n(), line).ok_or(FORM)?;
+                let event = event_of(setting.n(), line).ok_or(refusal::FORM)?;
                 let net = Net::new(setting.clone(), &mut self.model, self.fault);
                 self.stage = Stage::Events(Box::new(net));
                 return self.play(&event);
@@ -107,10 +105,10 @@ impl Player<'_> {
                 take_faulty(&mut net.setting, a as usize, b as usize, self.fault)?;
             }
             (Stage::Events(net), line) => {
-                let event = event_of(net.setting.n(), line).ok_or(FORM)?;
+                let event = event_of(net.setting.n(), line).ok_or(refusal::FORM)?;
                 return self.play(&event);
             }
-            _ => return Err(FORM),
+            _ => return Err(refusal::FORM),
         }
         Ok(())
     }
@@ -125,13 +123,13 @@ impl Player<'_> {
 
     /// "refusals of its burst leave the schedule running"
     fn play(&mut self, event: &Event) -> Result<(), Number> {
-        let Stage::Events(net) = &mut self.stage else { return Err(FORM) };
+        let Stage::Events(net) = &mut self.stage else { return Err(refusal::FORM) };
         if net.turned_down(event).is_none() {
             (self.watch)(self.line, net, event);
         }
         match net.happen(event, OUTPUT_ROOM, &mut self.model) {
-            Answer::Refused(16) if self.fault == Fault::CarryBeforeBroadcast => Ok(()),
-            Answer::Refused(number @ 16..=18) => Err(number),
+            Answer::Refused(refusal::NOT_BROADCAST) if self.fault == Fault::CarryBeforeBroadcast => Ok(()),
+            Answer::Refused(number @ refusal::NOT_BROADCAST..=refusal::FORGED_ON_GOOD) => Err(number),
             Answer::Refused(number) if self.fault == Fault::ForgeryRefusalStops => Err(number),
             _ => Ok(()),
         }
@@ -152,7 +150,7 @@ impl Player<'_> {
 fn begin(n: usize, t: usize, fault: Fault) -> Result<Stage, Number> {
     net_size(n)?;
     if t > most_faulty(n) + usize::from(fault == Fault::HigherLimitOfT) {
-        return Err(2);
+        return Err(refusal::FAULTY_LIMIT);
     }
     Ok(Stage::Ids { n, t, ids: Vec::new() })
 }
@@ -160,13 +158,13 @@ fn begin(n: usize, t: usize, fault: Fault) -> Result<Stage, Number> {
 /// `id b v` for b = 1 to n: refusals 3 and 14.
 fn take_id(n: usize, ids: &mut Vec<u32>, b: usize, v: u32, fault: Fault) -> Result<(), Number> {
     if b != ids.len() + 1 || b > n {
-        return Err(FORM);
+        return Err(refusal::FORM);
     }
     if v == 0 {
-        return Err(3);
+        return Err(refusal::OWN_IDENTIFIER);
     }
     if ids.contains(&v) && fault != Fault::EqualIdentifiersAllowed {
-        return Err(14);
+        return Err(refusal::SAME_IDENTIFIER);
     }
     ids.push(v);
     Ok(())
@@ -177,16 +175,16 @@ fn take_faulty(setting: &mut Setting, a: usize, b: usize, fault: Fault) -> Resul
     let most = setting.t + usize::from(fault == Fault::FaultyOneMore);
     let too_many = setting.faulty.len() >= most;
     if fault == Fault::FormAfterChecks && too_many {
-        return Err(15);
+        return Err(refusal::FAULTY_LINKS);
     }
     let ordered = a < b || (fault == Fault::FaultyEitherOrder && a != b);
     let in_net = (1..=setting.n()).contains(&a) && (1..=setting.n()).contains(&b);
     let twice = setting.faulty.contains(&(a.min(b), a.max(b)));
     if !ordered || !in_net || (twice && fault != Fault::FaultyTwice) {
-        return Err(FORM);
+        return Err(refusal::FORM);
     }
     if too_many {
-        return Err(15);
+        return Err(refusal::FAULTY_LINKS);
     }
     setting.faulty.insert((a.min(b), a.max(b)));
     Ok(())

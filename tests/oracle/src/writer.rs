@@ -4,16 +4,17 @@
 use crate::faults::Fault;
 use crate::message::{Kind, Message};
 use crate::reader::{judge_identifiers, net_size, Number};
+use crate::refusal;
 
 pub fn write(n: usize, kind: u8, ids: &[u32], out: &mut [u8], fault: Fault) -> Result<usize, Number> {
     net_size(n)?;
     let kind = Kind::of(kind);
     if kind.is_some_and(|kind| out.len() < kind.frame_length(n)) {
-        return Err(6);
+        return Err(refusal::OUTPUT);
     }
-    let kind = kind.ok_or(8)?;
+    let kind = kind.ok_or(refusal::KIND)?;
     if ids.len() != kind.count(n) {
-        return Err(9);
+        return Err(refusal::COUNT);
     }
     judge_identifiers(ids, fault)?;
     let frame = Message::new(kind, ids.to_vec()).frame_with(fault);

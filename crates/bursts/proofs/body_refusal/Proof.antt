@@ -11,12 +11,12 @@ use Rattle.frame.specs.Reading.{listRefusal, countByte, fromEnd}
 use Rattle.bursts.proofs.body_refusal.Statement.{statement}
 use Rattle.bursts.proofs.body_refusal.Tie as tie
 
-few : (c : tie.After-identifiers) → c .before .before .wide .result ≤ length (c .identifiers .result)
+few : (c : tie.After-id-array) → c .before .before .wide .result ≤ length (c .id-array .result)
 unfolding countByte fromEnd
 few c =
     let pre = c .before .before .before .before .before .pre in
     let wide = c .before .before .wide in
-    omega (arith, wide .ensures, pre .few, ap length (c .identifiers .ensures) ∙ length-array _)
+    omega (arith, wide .ensures, pre .few, ap length (c .id-array .ensures) ∙ length-array _)
 
 sub-wide : tie.Need-sub-wide
 sub-wide c = search needs
@@ -30,8 +30,8 @@ wide-requires c κs = search needs
 body-in-requires : tie.Need-body-in-requires
 body-in-requires c κs = search needs
 
-identifiers-requires : tie.Need-identifiers-requires
-identifiers-requires c κs = search needs
+id-array-requires : tie.Need-id-array-requires
+id-array-requires c κs = search needs
 
 array-share-prefix-ids : tie.Need-array-share-prefix-ids
 array-share-prefix-ids c = few c
@@ -49,10 +49,10 @@ returns c =
     let pre = c .before .before .before .before .before .before .before .pre in
     let wide = c .before .before .before .before .wide in
     let body-in = c .before .before .before .body-in in
-    let identifiers = c .before .before .identifiers in
+    let decoded = c .before .before .id-array in
     let s = a .burst .now in
     c .list-refusal .ensures
-    ∙ ap listRefusal (ap₂ take (wide .ensures) (identifiers .ensures ∙ ap idArray (body-in .ensures)) ∙ array-front s pre)
+    ∙ ap listRefusal (ap₂ take (wide .ensures) (decoded .ensures ∙ ap idArray (body-in .ensures)) ∙ array-front s pre)
 
 pub body-refusal-spec : {M : Type 1} → statement M
 body-refusal-spec =
@@ -62,7 +62,7 @@ body-refusal-spec =
     shared-slice-read-wide
     wide-requires
     body-in-requires
-    identifiers-requires
+    id-array-requires
     array-share-prefix-ids
     slice-aggregate-list-refusal
     list-refusal-requires

@@ -1,7 +1,7 @@
 -- `call_refusals::setting_refusal` meets its contract: the number of the sizes, and where they give none that of the identifier.
-use mathlib.Core.Path.{sym, _∙_}
+use mathlib.Core.Path.{ap₂, _∙_}
 use borrow.Author.Needs.{needs}
-use Rattle.lists.specs.Choice.Laws.{first-none, first-given}
+use Rattle.lists.specs.Choice.{first}
 use Rattle.protocol.specs.Sound.{settingRefusal}
 use Rattle.call_refusals.proofs.setting_refusal.Statement.{statement}
 use Rattle.call_refusals.proofs.setting_refusal.Tie as tie
@@ -9,16 +9,15 @@ use Rattle.call_refusals.proofs.setting_refusal.Tie as tie
 size-refusal-requires : tie.Need-size-refusal-requires
 size-refusal-requires c κs = search needs
 
-returns : tie.Need-returns
-unfolding settingRefusal
-returns c = let e = c .before .size-refusal .ensures in e ∙ sym (first-given _ (λ z. c .if1 .taken (e ∙ z)))
-
 own-refusal-requires : tie.Need-own-refusal-requires
 own-refusal-requires c κs = search needs
 
-returns-2 : tie.Need-returns-2
+first-of-requires : tie.Need-first-of-requires
+first-of-requires c κs = search needs
+
+returns : tie.Need-returns
 unfolding settingRefusal
-returns-2 c = c .own-refusal .ensures ∙ sym (first-none _ (sym (c .before .before .size-refusal .ensures) ∙ c .before .if1 .left))
+returns c = c .first-of .ensures ∙ ap₂ first (c .before .before .size-refusal .ensures) (c .before .own-refusal .ensures)
 
 pub setting-refusal-spec : {M : Type 1} → statement M
-setting-refusal-spec = tie.close (tie.spec size-refusal-requires returns own-refusal-requires returns-2)
+setting-refusal-spec = tie.close (tie.spec size-refusal-requires own-refusal-requires first-of-requires returns)

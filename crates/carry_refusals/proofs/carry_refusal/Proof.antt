@@ -16,18 +16,18 @@ returns-2 c = not-broadcast _ _ _ _ _ _ (c .before .broadcasts .ensures .0) (c .
 is-good-requires : tie.Need-is-good-requires
 is-good-requires c κs = search needs
 
-heard-requires : tie.Need-heard-requires
-heard-requires c κs = search needs
+heard-by-requires : tie.Need-heard-by-requires
+heard-by-requires c κs = search needs
 
 returns-3 : tie.Need-returns-3
 returns-3 c = repeated _ _ _ _ _ _ (c .before .before .before .before .before .before .if1 .left)
     (c .before .before .before .before .before .broadcasts .ensures .0) (c .before .before .before .before .if2 .left)
-    (c .before .before .before .is-good .ensures) (c .before .before .if3 .taken) (c .before .heard .ensures) (c .if4 .taken)
+    (c .before .before .before .is-good .ensures) (c .before .before .if3 .taken) (c .before .heard-by .ensures) (c .if4 .taken)
 
 returns-4 : tie.Need-returns-4
 returns-4 c = first-time _ _ _ _ _ _
     (c .before .before .before .before .before .before .if1 .left) (c .before .before .before .before .before .broadcasts .ensures .0)
-    (c .before .before .before .before .if2 .left) (c .before .heard .ensures) (c .if4 .left)
+    (c .before .before .before .before .if2 .left) (c .before .heard-by .ensures) (c .if4 .left)
 
 returns-5 : tie.Need-returns-5
 returns-5 c = on-a-faulty-link _ _ _ _ _ _ (c .before .before .before .before .if1 .left)
@@ -41,7 +41,7 @@ carry-refusal-spec =
     broadcasts-requires
     returns-2
     is-good-requires
-    heard-requires
+    heard-by-requires
     returns-3
     returns-4
     returns-5)

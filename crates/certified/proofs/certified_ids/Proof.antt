@@ -19,13 +19,13 @@ abbrev μ-loop : tie.MeasureT-loop
 array-write-ids : tie.Need-array-write-ids Inv-loop μ-loop
 array-write-ids c = omega arith
 
-link-count-requires : tie.Need-link-count-requires Inv-loop μ-loop
-link-count-requires c κs = search needs
+links-in-requires : tie.Need-links-in-requires Inv-loop μ-loop
+links-in-requires c κs = search needs
 
 loop-holds : tie.Need-loop-holds Inv-loop μ-loop
 unfolding padTo
-loop-holds c = let b = c .before .args .t1 in let e : c .link-count .result ≡ linkCount b = unfold linkCount in c .link-count .ensures in
-    (gather-first b _ 1 _ e refl refl, omega (arith, c .link-count .ensures))
+loop-holds c = let b = c .before .args .t1 in let e : c .links-in .result ≡ linkCount b = unfold linkCount in c .links-in .ensures in
+    (gather-first b _ 1 _ e refl refl, omega (arith, c .links-in .ensures))
 
 sub-i : tie.Need-sub-i Inv-loop μ-loop
 sub-i c = omega arith
@@ -81,7 +81,7 @@ certified-ids-spec =
     Inv-loop
     μ-loop
     array-write-ids
-    link-count-requires
+    links-in-requires
     loop-holds
     sub-i
     mul-link

@@ -10,8 +10,8 @@ Inv-loop base k i₀ separator i = i ≤ k
 abbrev μ-loop : tie.MeasureT-loop
 μ-loop base k i₀ separator i = k - i
 
-link-count-requires : tie.Need-link-count-requires Inv-loop μ-loop
-link-count-requires c κs = search needs
+links-in-requires : tie.Need-links-in-requires Inv-loop μ-loop
+links-in-requires c κs = search needs
 
 loop-holds : tie.Need-loop-holds Inv-loop μ-loop
 loop-holds c = search needs
@@ -22,11 +22,11 @@ add-i c = search needs
 link-at-requires : tie.Need-link-at-requires Inv-loop μ-loop
 link-at-requires c κs = search needs
 
-slice-aggregate-tally : tie.Need-slice-aggregate-tally Inv-loop μ-loop
-slice-aggregate-tally c = search needs
+slice-aggregate-say-tally : tie.Need-slice-aggregate-say-tally Inv-loop μ-loop
+slice-aggregate-say-tally c = search needs
 
-tally-requires : tie.Need-tally-requires Inv-loop μ-loop
-tally-requires c κs = search needs
+say-tally-requires : tie.Need-say-tally-requires Inv-loop μ-loop
+say-tally-requires c κs = search needs
 
 loop-less : tie.Need-loop-less Inv-loop μ-loop
 loop-less c = search needs
@@ -43,12 +43,12 @@ link-tallies-spec =
     (tie.spec
     Inv-loop
     μ-loop
-    link-count-requires
+    links-in-requires
     loop-holds
     add-i
     link-at-requires
-    slice-aggregate-tally
-    tally-requires
+    slice-aggregate-say-tally
+    say-tally-requires
     loop-less
     loop-again
     returns)

@@ -17,8 +17,8 @@ Inv-loop v base k count₀ i₀ count i = Counted base (λ l. holdsCorrect (base
 abbrev μ-loop : tie.MeasureT-loop
 μ-loop v base k count₀ i₀ count i = k - i
 
-link-count-requires : tie.Need-link-count-requires Inv-loop μ-loop
-link-count-requires c κs = search needs
+links-in-requires : tie.Need-links-in-requires Inv-loop μ-loop
+links-in-requires c κs = search needs
 
 loop-holds : tie.Need-loop-holds Inv-loop μ-loop
 loop-holds c = counted-none _ _ _
@@ -51,7 +51,7 @@ loop-again c = let s = c .before .before .before in
 
 returns : tie.Need-returns Inv-loop μ-loop
 unfolding correctCount
-returns c = counted-all _ _ (c .before .loop .inv) (omega arith) (c .before .before .link-count .ensures)
+returns c = counted-all _ _ (c .before .loop .inv) (omega arith) (c .before .before .links-in .ensures)
 
 pub correct-count-spec : {M : Type 1} → statement M
 correct-count-spec =
@@ -59,7 +59,7 @@ correct-count-spec =
     (tie.spec
     Inv-loop
     μ-loop
-    link-count-requires
+    links-in-requires
     loop-holds
     mul-link
     element-copy-out-link

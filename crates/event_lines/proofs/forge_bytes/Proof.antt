@@ -14,21 +14,21 @@ use Rattle.events.specs.Events.{forgedTo}
 use Rattle.event_lines.proofs.forge_bytes.Statement.{statement}
 use Rattle.event_lines.proofs.forge_bytes.Tie as tie
 
-room : (c : tie.After-hex-bytes) → c .before .before .args .count ≤ length (c .hex-bytes .result)
+room : (c : tie.After-hex-array) → c .before .before .args .count ≤ length (c .hex-array .result)
 room c = omega (
   arith,
   c .before .before .pre .0,
-  ap length (c .hex-bytes .ensures),
+  ap length (c .hex-array .ensures),
   length-hex (now (c .before .before .args .s)) (c .before .before .args .at) (c .before .before .args .count),
 )
 
-bytes-are : (c : tie.After-hex-bytes) → take (c .before .before .args .count) (c .hex-bytes .result)
+bytes-are : (c : tie.After-hex-array) → take (c .before .before .args .count) (c .hex-array .result)
     ≡ hexBytes (c .before .before .args .count) (drop (c .before .before .args .at) (now (c .before .before .args .s)))
-bytes-are c = ap (take (c .before .before .args .count)) (c .hex-bytes .ensures) ∙ hex-front (now (c .before .before .args .s))
+bytes-are c = ap (take (c .before .before .args .count)) (c .hex-array .ensures) ∙ hex-front (now (c .before .before .args .s))
     (c .before .before .args .at) (c .before .before .args .count) (c .before .before .pre .0) (c .before .before .pre .1)
 
-hex-bytes-requires : tie.Need-hex-bytes-requires
-hex-bytes-requires c κs = search needs
+hex-array-requires : tie.Need-hex-array-requires
+hex-array-requires c κs = search needs
 
 array-share-prefix-bytes : tie.Need-array-share-prefix-bytes
 array-share-prefix-bytes c = room (c)
@@ -48,7 +48,7 @@ pub forge-bytes-spec : {M : Type 1} → statement M
 forge-bytes-spec =
     tie.close
     (tie.spec
-    hex-bytes-requires
+    hex-array-requires
     array-share-prefix-bytes
     slice-aggregate-forge
     forge-requires

@@ -51,8 +51,8 @@ returns-3 c =
     (header-sized (b .args .header) _ (b .good .1 .1 .0)) _)
     (c .before .if2 .taken) (c .refuse2 .ensures)))
 
-with-id-requires : tie.Need-with-id-requires
-with-id-requires c κs = search needs
+named-ids-requires : tie.Need-named-ids-requires
+named-ids-requires c κs = search needs
 
 onward-requires : tie.Need-onward-requires
 onward-requires c κs = c .before .before .before .before .before .before .before .before .before .before .before .before .pre
@@ -69,7 +69,7 @@ returns-4 c =
     ∙ c .before .before .before .before .before .before .before .v .given .1)
     (judged-onward _ (c .before .before .before .before .id-refusal .ensures ∙ id-number-is h sized _)
     (c .before .before .before .if2 .left)
-    (ap begunNet (c .onward .ensures ∙ ap (λ (l : List ℕ). onwardHeader h l (h .faulty) next) (c .before .with-id .ensures))
+    (ap begunNet (c .onward .ensures ∙ ap (λ (l : List ℕ). onwardHeader h l (h .faulty) next) (c .before .named-ids .ensures))
     ∙ named-onward h (b .args .b) _ next sized)))
 
 pub id-step-spec : {M : Type 1} → statement M
@@ -85,6 +85,6 @@ id-step-spec =
     id-refusal-requires
     refuse-requires-2
     returns-3
-    with-id-requires
+    named-ids-requires
     onward-requires
     returns-4)

@@ -115,6 +115,11 @@ pub first-last : (a : ℕ) {b : ℕ} → b ≡ 0 → first a b ≡ a
 unfolding first
 first-last a {b} e = choose-ind (λ (r : ℕ). r ≡ a) (eqb a 0) (λ p. e ∙ sym (eqb-true a 0 p)) (λ _. refl)
 
+-- what comes behind a number matters only where there is none
+pub first-same : (a : ℕ) {b c : ℕ} → (a ≡ 0 → b ≡ c) → first a b ≡ first a c
+unfolding first
+first-same a f = choose-same (eqb a 0) (λ e. f (eqb-true a 0 e)) (λ _. refl)
+
 pub first-assoc : (a b c : ℕ) → first a (first b c) ≡ first (first a b) c
 unfolding first
 first-assoc a b c = choose-ind (λ (r : ℕ). choose (eqb a 0) (first b c) a ≡ first r c) (eqb a 0)

@@ -1,3 +1,4 @@
+-- `marking::mark` meets its contract: the place of a mark is inside the array.
 use mathlib.Core.Path.{refl, sym}
 use Rattle.lists.specs.Choice.Laws.{and-fails, and-no, and-both, chosen-yes, chosen-no}
 use Rattle.node.specs.Node.Within.{is-within, below-one, above-most}

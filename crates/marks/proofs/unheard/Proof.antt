@@ -1,3 +1,4 @@
+-- `marks::unheard` meets its contract. Invariant: the total is that of the broadcasts looked at.
 use Prim.Native.Nat.{suc, _≤_, _-_}
 use mathlib.Core.Path.{_≡_, refl, _∙_}
 use mathlib.Core.Logic.{⊎-elim}
@@ -20,11 +21,11 @@ abbrev μ-loop : tie.MeasureT-loop
 loop-holds : tie.Need-loop-holds Inv-loop μ-loop
 loop-holds c = (omega arith, omega arith, (unfold sum in refl))
 
-add-heard : tie.Need-add-heard Inv-loop μ-loop
-add-heard c = search needs
+add-heard-by : tie.Need-add-heard-by Inv-loop μ-loop
+add-heard-by c = search needs
 
-heard-requires : tie.Need-heard-requires Inv-loop μ-loop
-heard-requires c κs = search needs
+heard-by-requires : tie.Need-heard-by-requires Inv-loop μ-loop
+heard-by-requires c κs = search needs
 
 add-total : tie.Need-add-total Inv-loop μ-loop
 add-total c = search needs
@@ -38,8 +39,8 @@ loop-less c = search needs
 loop-again : tie.Need-loop-again Inv-loop μ-loop
 loop-again c =
     let inv = c .before .before .before .loop .inv in
-    ⊎-elim (λ w. (omega arith, omega arith, w .1 ∙ one-more _ _ _ _ (c .before .heard .ensures) (inv .2) (not-true _ (w .0 .taken))))
-    (λ w. (omega arith, omega arith, w .1 ∙ none-more _ _ _ _ (c .before .heard .ensures) (inv .2) (not-false _ (w .0 .left))))
+    ⊎-elim (λ w. (omega arith, omega arith, w .1 ∙ one-more _ _ _ _ (c .before .heard-by .ensures) (inv .2) (not-true _ (w .0 .taken))))
+    (λ w. (omega arith, omega arith, w .1 ∙ none-more _ _ _ _ (c .before .heard-by .ensures) (inv .2) (not-false _ (w .0 .left))))
     (c .if1 .came)
 
 returns : tie.Need-returns Inv-loop μ-loop
@@ -52,8 +53,8 @@ unheard-spec =
     Inv-loop
     μ-loop
     loop-holds
-    add-heard
-    heard-requires
+    add-heard-by
+    heard-by-requires
     add-total
     add-i
     loop-less

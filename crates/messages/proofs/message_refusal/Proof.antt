@@ -59,7 +59,8 @@ returns-3 c = let z = c .before .before .before .before in let s = z .before .be
     ∙ z .before .before .before .count .given .1) in
     message-list (a .n) (a .kind) (a .t3) _ _ (k .0) (k .1 .0)
     (sym (z .zero-behind .ensures) ∙ not-false _ (c .before .before .before .if1 .left))
-    (c .list-refusal .ensures ∙ list-within _ _ _ (ids-long s) (c .before .before .least .ensures))
+    (c .list-refusal .ensures
+    ∙ list-within _ (z .before .before .before .count .given .0 .0) _ (ids-long s) (c .before .before .least .ensures))
 
 pub message-refusal-spec : {M : Type 1} → statement M
 message-refusal-spec =

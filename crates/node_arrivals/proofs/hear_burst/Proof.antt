@@ -3,7 +3,6 @@ use Rattle.node_arrivals.specs.Arrivals.Laws.{burst-unread, burst-unhear
 use mathlib.Core.Path.{_≡_, sym, _∙_}
 use Rattle.reader.specs.declared.Reading.the-variants.{Message}
 use Rattle.reader.specs.Answers.{readingOf}
-use Rattle.reader.specs.Answers.Place.{body-inside, burst-short}
 use borrow.Author.Needs.{needs}
 use Rattle.node_arrivals.proofs.hear_burst.Statement.{statement}
 use Rattle.node_arrivals.proofs.hear_burst.Tie as tie
@@ -30,7 +29,7 @@ returns : tie.Need-returns
 returns c = burst-unread _ _ _ _ _ (sym (c .before .before .read .ensures) ∙ c .enum-told .given .1)
 
 identifiers-at-requires : tie.Need-identifiers-at-requires
-identifiers-at-requires c κs = (body-inside _ _ _ _ _ (message c), burst-short _ _ _ _ _ (message c))
+identifiers-at-requires c κs = search needs
 
 hear-message-requires : tie.Need-hear-message-requires
 hear-message-requires c κs = search needs

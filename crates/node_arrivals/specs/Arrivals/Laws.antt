@@ -1,5 +1,5 @@
 -- A burst that cannot be read, one that the base's call turns down, and one that arrives.
-use Prim.Native.Nat.{ℕ, _+_, _*_, _-_}
+use Prim.Native.Nat.{ℕ, _*_}
 use mathlib.Core.Path.{_≡_, refl, sym, ap, _∙_}
 use mathlib.Core.Logic.{_≢_}
 use mathlib.Core.List.{List}
@@ -19,8 +19,8 @@ use Rattle.protocol.specs.Sound.Laws.{record-passed}
 use Rattle.protocol.specs.Steps.{arrival, arrivalRefusal}
 use Rattle.protocol.specs.Steps.Answers.{arrival-number, arrival-refused}
 use Rattle.protocol.specs.Net.{callRefusal}
-use Rattle.engine.specs.Hearing.{messageArrival}
-use Rattle.engine.specs.Hearing.Bursts.{read-heard}
+use Rattle.hearing.specs.Hearing.{messageArrival}
+use Rattle.hearing.specs.Hearing.Bursts.{read-heard}
 use Rattle.node.specs.declared.Node.{Node}
 use Rattle.node.specs.Node.{marked, nodeAfter}
 use Rattle.node_calls.specs.declared.NodeAnswer.{NodeAnswer}
@@ -45,8 +45,8 @@ module _ (u : Node) (link : ℕ) (bytes : List ℕ) (a k : ℕ) where
 
   -- what was read arrives
   module _ {kind count start : ℕ} (e : readingOf (u .base .n) bytes ≡ Message kind count start)
-      {ids : List ℕ} (ei : ids ≡ idArray (take (start + 4 * count - start) (drop start bytes)))
-      {t : NodeAnswer} (et : t ≡ nodeAnswer u (messageArrival (u .base) link kind ids outputRoom)) where
+      {ids : List ℕ} (ei : ids ≡ idArray (take (4 * count) (drop start bytes)))
+      {t : NodeAnswer} (et : t ≡ nodeAnswer u (messageArrival (u .base) link 0 kind ids outputRoom)) where
     is-answer : t ≡ nodeAnswer u (arrival (u .base) link bytes outputRoom)
     is-answer = et ∙ ap (nodeAnswer u)
         (sym (read-heard (u .base) link bytes outputRoom _ _ _ e ids (ei ∙ ap idArray (body-there _ _ _ _ _ e))))

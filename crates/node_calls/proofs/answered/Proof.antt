@@ -4,8 +4,8 @@ use borrow.Author.Needs.{needs}
 use Rattle.node_calls.proofs.answered.Statement.{statement}
 use Rattle.node_calls.proofs.answered.Tie as tie
 
-changed-requires : tie.Need-changed-requires
-changed-requires c κs = search needs
+changed-base-requires : tie.Need-changed-base-requires
+changed-base-requires c κs = search needs
 
 outcome-numbers-requires : tie.Need-outcome-numbers-requires
 outcome-numbers-requires c κs = search needs
@@ -15,8 +15,8 @@ keep-three-requires c κs = search needs
 
 returns : tie.Need-returns
 returns c = numbers-answer _ (c .before .outcome-numbers .ensures) _ _ (c .before .before .before .before .pre)
-    (c .before .before .changed .ensures) (c .keep-three .ensures)
+    (c .before .before .changed-base .ensures) (c .keep-three .ensures)
 
 pub answered-spec : {M : Type 1} → statement M
 answered-spec =
-    tie.close (tie.spec changed-requires outcome-numbers-requires keep-three-requires returns)
+    tie.close (tie.spec changed-base-requires outcome-numbers-requires keep-three-requires returns)

@@ -21,14 +21,14 @@ answered-requires : tie.Need-answered-requires
 answered-requires c κs =
     let s = c .before .before .before .before in
     let G = s .good .1 .1 .1 .0 in
-    call-fits (s .args .node) _ (message-storable _ _ _ _ _ (node-base (s .args .node) _ (s .good .0))
+    call-fits (s .args .node) _ (message-storable _ _ _ _ _ _ (node-base (s .args .node) _ (s .good .0))
     (G .1 .0 .1) (array-words (s .args .ids) (G .0) (G .1 .1))) _ refl (c .before .before .hear .ensures)
 
 returns : tie.Need-returns
 returns c =
     let s = c .before .before .before .before .before in
     let G = s .good .1 .1 .1 .0 in
-    call-answer (s .args .node) _ (message-storable _ _ _ _ _ (node-base (s .args .node) _ (s .good .0))
+    call-answer (s .args .node) _ (message-storable _ _ _ _ _ _ (node-base (s .args .node) _ (s .good .0))
     (G .1 .0 .1) (array-words (s .args .ids) (G .0) (G .1 .1))) _ refl (c .before .before .before .hear .ensures) (c .answered .ensures)
 
 pub hear-message-spec : {M : Type 1} → statement M

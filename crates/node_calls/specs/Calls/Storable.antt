@@ -50,8 +50,8 @@ use Rattle.protocol.specs.Steps.Laws.{takes-rest}
 use Rattle.protocol.specs.Steps.Output.{start-step-brief, arrival-step-brief}
 use Rattle.protocol.specs.Steps.Refusals.{Heard, start-cases}
 use Rattle.protocol.specs.Steps.Sizes.{length-encode, Brief, valid-fits, decides-fits}
-use Rattle.engine.specs.Hearing.{messageArrival}
-use Rattle.engine.specs.Hearing.Valid.{message-heard, message-cases}
+use Rattle.hearing.specs.Hearing.{messageArrival}
+use Rattle.hearing.specs.Hearing.Valid.{message-heard, message-cases}
 
 -- ---- each frame fits in its place
 abbrev pub AllShort : List Message → Type 0
@@ -146,7 +146,7 @@ pub start-storable : (b : Base) (room : ℕ) → Storable b (start b room)
 start-storable b room = start-cases (Storable b) b room (λ r _. refuses-storable b r)
     (λ _. stepped-storable b _ (start-step-brief b) (start-step-cases Stepped b (λ _. begins-stepped b) (λ _. discards-stepped b)))
 
-pub message-storable : (b : Base) (link kind : ℕ) (ids : List ℕ) (room : ℕ) → Sized b → length ids ≡ mostBases → Below (2 ^ 32) ids
-    → Storable b (messageArrival b link kind ids room)
-message-storable b link kind ids room S l words = message-cases b link kind ids room (Storable b) (refuses-storable b)
-    (λ p e. heard-storable b _ _ S (message-heard b link kind ids room l words p e))
+pub message-storable : (b : Base) (link number kind : ℕ) (ids : List ℕ) (room : ℕ)
+    → Sized b → length ids ≡ mostBases → Below (2 ^ 32) ids → Storable b (messageArrival b link number kind ids room)
+message-storable b link number kind ids room S l words = message-cases b link number kind ids room (Storable b) (refuses-storable b)
+    (λ e. heard-storable b _ _ S (message-heard b link number kind ids room l words e))

@@ -39,12 +39,9 @@ shared-slice-read-count c = omega (arith, framed (c .before .before))
 frame-bytes-requires : tie.Need-frame-bytes-requires
 frame-bytes-requires c κs = search needs
 
-cast-t9 : tie.Need-cast-t9
-cast-t9 c = search needs
-
-sub-t13 : tie.Need-sub-t13
+sub-start : tie.Need-sub-start
 unfolding countByte fromEnd
-sub-t13 c = omega (arith, framed (c .before .before .before), c .frame-bytes .ensures)
+sub-start c = omega (arith, framed (c .before .before .before), c .frame-bytes .ensures)
 
 returns-2 : tie.Need-returns-2
 unfolding readingOf kindByte countByte bodyStart fromEnd
@@ -67,6 +64,5 @@ read-spec =
     sub-count
     shared-slice-read-count
     frame-bytes-requires
-    cast-t9
-    sub-t13
+    sub-start
     returns-2)

@@ -5,11 +5,11 @@ use mathlib.Core.List.{List, []}
 use native.Mathlib.Omega.{arith}
 use borrow.Author.Tests.{eq-eqb, ne-eqb}
 use lib.ListN.{take, drop, length, replicate}
-use Rattle.limits.specs.Limits.{mostBases, longestBurst}
-use Rattle.lists.specs.Choice.Laws.{choose-yes, choose-no, first-passed}
+use Rattle.limits.specs.Limits.{mostBases}
+use Rattle.lists.specs.Choice.Laws.{choose-yes, choose-no}
 use Rattle.lists.specs.Lists.{padTo}
-use Rattle.frame.specs.Reading.{kindByte, countByte, bodyStart, bodyOf, readRefusal, burstRefusal, identifiers}
-use Rattle.frame.specs.Reading.Laws.{Framed, trailer-passed, read-passed}
+use Rattle.frame.specs.Reading.{kindByte, countByte, bodyStart, bodyOf, readRefusal, identifiers}
+use Rattle.frame.specs.Reading.Laws.{Framed, read-passed}
 use Rattle.decoding.specs.Decoding.{idArray}
 use Rattle.reader.specs.declared.Reading.{Reading}
 use Rattle.reader.specs.declared.Reading.the-variants.{Message, Refused}
@@ -47,17 +47,16 @@ module _ (n : ℕ) (s : List ℕ) (kind count start : ℕ) (e : readingOf n s �
   unfolding bodyStart
   body-inside = omega (arith, counted, placed, framed)
 
-  pub burst-short : length s ≤ longestBurst
-  unfolding readRefusal burstRefusal
-  burst-short = trailer-passed n s (first-passed _ _ (first-passed _ _ passed .1) .0) .short
-
-  -- the stretch between the two ends
-  pub body-there : take (start + 4 * count - start) (drop start s) ≡ stretch n s
+  -- the bytes of its identifiers, from its start on
+  pub body-there : take (4 * count) (drop start s) ≡ stretch n s
   unfolding stretch bodyOf
   body-there =
-      let k : start + 4 * count - start ≡ 4 * countByte s = omega (arith, counted) in
-      ap (λ (j : ℕ). take j (drop start s)) k ∙ ap (λ (j : ℕ). take (4 * countByte s) (drop j s)) placed
+      ap (λ (j : ℕ). take (4 * j) (drop start s)) counted ∙ ap (λ (j : ℕ). take (4 * countByte s) (drop j s)) placed
       ∙ sym (choose-yes _ _ (eq-eqb (readRefusal n s) 0 passed))
+
+  -- those between its two ends
+  pub body-between : take (start + 4 * count - start) (drop start s) ≡ stretch n s
+  body-between = let k : start + 4 * count - start ≡ 4 * count = omega arith in ap (λ (j : ℕ). take j (drop start s)) k ∙ body-there
 
   pub start-there : start ≡ stretchStart n s
   unfolding stretchStart

@@ -16,17 +16,18 @@ unfolding responseFrames responseOutcome
 returns c = let t = not-true _ (c .if1 .taken) in let o = c .before .before .args .out .now in
     (sym (choose-no _ _ t), sym (ap (λ (s : List ℕ). over s o) (choose-no _ _ t) ∙ over-nothing o))
 
-broadcast-requires : tie.Need-broadcast-requires
-broadcast-requires c κs = search needs
+put-broadcasts-requires : tie.Need-put-broadcasts-requires
+put-broadcasts-requires c κs = search needs
 
 same-length : tie.Need-same-length
 same-length c = search needs
 
 returns-2 : tie.Need-returns-2
 unfolding responseFrames responseOutcome
-returns-2 c = let t = not-false _ (c .before .before .before .before .before .if1 .left) in let w = c .before .before .broadcast .ensures in
+returns-2 c =
+    let t = not-false _ (c .before .before .before .before .before .if1 .left) in let w = c .before .before .put-broadcasts .ensures in
     let o = c .before .before .before .before .before .before .before .args .out .now in
     (w .0 ∙ sym (choose-yes _ _ t), w .1 ∙ sym (ap (λ (s : List ℕ). over s o) (choose-yes _ _ t)))
 
 pub said-spec : {M : Type 1} → statement M
-said-spec = tie.close (tie.spec returns broadcast-requires same-length returns-2)
+said-spec = tie.close (tie.spec returns put-broadcasts-requires same-length returns-2)

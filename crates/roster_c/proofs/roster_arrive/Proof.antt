@@ -1,5 +1,5 @@
--- `roster_c::roster_arrive` meets its contract: a walk of its MIR, by hand. The record is loaded and lent to the engine, and what
--- that answers with is handed to `stored`, with the loan of the record.
+-- `roster_c::roster_arrive` meets its contract: a walk of its MIR, by hand. The record is loaded and goes by value to
+-- `arriving::arrive`; the change that it answers with is handed to `store`, with the loan of the record.
 use mathlib.Core.Path.{_≡_, refl, ap, _∙_}
 use mathlib.Core.List.{[], _∷_}
 use lib.ListN.{length}
@@ -33,10 +33,10 @@ use Rattle.arriving.proofs.arrive as call
 use Rattle.arriving.proofs.arrive.Symbol as call-def
 use Rattle.arriving.proofs.arrive.Symbol.{name as #arriving·arrive}
 use Rattle.arriving.proofs.arrive.Met as call-thm
-use Rattle.storing.proofs.stored as stored
-use Rattle.storing.proofs.stored.Symbol as stored-def
-use Rattle.storing.proofs.stored.Symbol.{name as #storing·stored}
-use Rattle.storing.proofs.stored.Met as stored-thm
+use Rattle.storing.proofs.store as stored
+use Rattle.storing.proofs.store.Symbol as stored-def
+use Rattle.storing.proofs.store.Symbol.{name as #storing·store}
+use Rattle.storing.proofs.store.Met as stored-thm
 use Rattle.walks.proofs.Locals.{enters, held, field-of, sets, puts, free-all}
 use Rattle.walks.proofs.Plain.{typed, slice-typed, takes, gets, lent, opened, hands, comes-back}
 use Rattle.walks.proofs.Calls.{triple, calls-by, ends-by, meets-by, proved}
@@ -49,7 +49,7 @@ use Rattle.roster_c.proofs.roster_arrive.Code as code
 module _ {M : Type 1} (𝓤 : URA M) (H : Heap 𝓤) (A : Atoms 𝓤) (W : Given 𝓤 H A) (at : Memory → SProp 𝓤) (run : Routine → Fun 𝓤)
     (C : Calls 𝓤 H) (Λ : Loops 𝓤 H) (fm : FmC 𝓤 H (W .laws) C)
     (call-known : Triple 𝓤 (C #arriving·arrive) (triple 𝓤 H A call.ended (call.clauses 𝓤 H A at run)))
-    (stored-known : Triple 𝓤 (C #storing·stored) (triple 𝓤 H A stored.ended (stored.clauses 𝓤 H A at run))) where
+    (stored-known : Triple 𝓤 (C #storing·store) (triple 𝓤 H A stored.ended (stored.clauses 𝓤 H A at run))) where
   meets : Meets 𝓤 H A f.signature (WpFn 𝓤 H C Λ code.function) (f.spec 𝓤 H A at run)
   meets = meets-by 𝓤 H A W f.ended
       (f.clauses 𝓤 H A at run) (WpFn 𝓤 H C Λ code.function) (λ κs. (ptr-vals, (uint-vals w64, (slice-vals, (slice-vals, tt)))))
@@ -103,4 +103,4 @@ unfolding code.routine
 roster-arrive-spec 𝓤 H 𝓜 𝓖 𝓡 = proved 𝓤 H 𝓜 𝓖 𝓡 code.env #roster-arrive code.function (code.unfolded 𝓤 H 𝓜 𝓡) _
     (λ fm. meets 𝓤 H (𝓖 .A) (givenOf 𝓤 H 𝓜 𝓖) (𝓜 .mem) (𝓡 .run) (tables 𝓤 H 𝓜 𝓡 code.env .C) (tables 𝓤 H 𝓜 𝓡 code.env .Λ) fm
     (cited 𝓤 H _ 𝓜 𝓡 code.env #arriving·arrive call-def.routine code.calls-arriving·arrive (call-thm.met 𝓤 H 𝓜 𝓖 𝓡))
-    (cited 𝓤 H _ 𝓜 𝓡 code.env #storing·stored stored-def.routine code.calls-storing·stored (stored-thm.met 𝓤 H 𝓜 𝓖 𝓡)))
+    (cited 𝓤 H _ 𝓜 𝓡 code.env #storing·store stored-def.routine code.calls-storing·store (stored-thm.met 𝓤 H 𝓜 𝓖 𝓡)))

@@ -1,5 +1,5 @@
--- `roster_c::roster_start` meets its contract: a walk of its MIR, by hand. The record is loaded and lent to the engine, and what
--- that answers with is handed to `stored`, with the loan of the record.
+-- `roster_c::roster_start` meets its contract: a walk of its MIR, by hand. The record is loaded and goes by value to
+-- `starting::start`; the change that it answers with is handed to `store`, with the loan of the record.
 use mathlib.Core.Path.{_≡_, refl, ap, _∙_}
 use mathlib.Core.List.{[], _∷_}
 use lib.ListN.{length}
@@ -27,14 +27,14 @@ use denote.Triple.Table.{cited}
 use Rattle.protocol.specs.Steps.{start}
 use Rattle.change.specs.Change.{changedBase, Does}
 use Rattle.c_answers.specs.Numbers.{outcomeNumbers}
-use Rattle.start_call.proofs.start as call
-use Rattle.start_call.proofs.start.Symbol as call-def
-use Rattle.start_call.proofs.start.Symbol.{name as #start-call·start}
-use Rattle.start_call.proofs.start.Met as call-thm
-use Rattle.storing.proofs.stored as stored
-use Rattle.storing.proofs.stored.Symbol as stored-def
-use Rattle.storing.proofs.stored.Symbol.{name as #storing·stored}
-use Rattle.storing.proofs.stored.Met as stored-thm
+use Rattle.starting.proofs.start as call
+use Rattle.starting.proofs.start.Symbol as call-def
+use Rattle.starting.proofs.start.Symbol.{name as #starting·start}
+use Rattle.starting.proofs.start.Met as call-thm
+use Rattle.storing.proofs.store as stored
+use Rattle.storing.proofs.store.Symbol as stored-def
+use Rattle.storing.proofs.store.Symbol.{name as #storing·store}
+use Rattle.storing.proofs.store.Met as stored-thm
 use Rattle.walks.proofs.Locals.{enters, held, field-of, sets, puts, free-all}
 use Rattle.walks.proofs.Plain.{typed, slice-typed, takes, gets, lent, opened, hands, comes-back}
 use Rattle.walks.proofs.Calls.{triple, calls-by, ends-by, meets-by, proved}
@@ -46,8 +46,8 @@ use Rattle.roster_c.proofs.roster_start.Code as code
 
 module _ {M : Type 1} (𝓤 : URA M) (H : Heap 𝓤) (A : Atoms 𝓤) (W : Given 𝓤 H A) (at : Memory → SProp 𝓤) (run : Routine → Fun 𝓤)
     (C : Calls 𝓤 H) (Λ : Loops 𝓤 H) (fm : FmC 𝓤 H (W .laws) C)
-    (call-known : Triple 𝓤 (C #start-call·start) (triple 𝓤 H A call.ended (call.clauses 𝓤 H A at run)))
-    (stored-known : Triple 𝓤 (C #storing·stored) (triple 𝓤 H A stored.ended (stored.clauses 𝓤 H A at run))) where
+    (call-known : Triple 𝓤 (C #starting·start) (triple 𝓤 H A call.ended (call.clauses 𝓤 H A at run)))
+    (stored-known : Triple 𝓤 (C #storing·store) (triple 𝓤 H A stored.ended (stored.clauses 𝓤 H A at run))) where
   meets : Meets 𝓤 H A f.signature (WpFn 𝓤 H C Λ code.function) (f.spec 𝓤 H A at run)
   meets = meets-by 𝓤 H A W f.ended (f.clauses 𝓤 H A at run) (WpFn 𝓤 H C Λ code.function) (λ κs. (ptr-vals, (slice-vals, tt)))
       (λ κs. (mut-tells (named 0) (κs .0) (base-type .row), (mut-slice-tells (named 1) (κs .1 .0) u8, tt))) (λ y are.
@@ -91,5 +91,5 @@ pub roster-start-spec : {M : Type 1} → stated.statement M
 unfolding code.routine
 roster-start-spec 𝓤 H 𝓜 𝓖 𝓡 = proved 𝓤 H 𝓜 𝓖 𝓡 code.env #roster-start code.function (code.unfolded 𝓤 H 𝓜 𝓡) _
     (λ fm. meets 𝓤 H (𝓖 .A) (givenOf 𝓤 H 𝓜 𝓖) (𝓜 .mem) (𝓡 .run) (tables 𝓤 H 𝓜 𝓡 code.env .C) (tables 𝓤 H 𝓜 𝓡 code.env .Λ) fm
-    (cited 𝓤 H _ 𝓜 𝓡 code.env #start-call·start call-def.routine code.calls-start-call·start (call-thm.met 𝓤 H 𝓜 𝓖 𝓡))
-    (cited 𝓤 H _ 𝓜 𝓡 code.env #storing·stored stored-def.routine code.calls-storing·stored (stored-thm.met 𝓤 H 𝓜 𝓖 𝓡)))
+    (cited 𝓤 H _ 𝓜 𝓡 code.env #starting·start call-def.routine code.calls-starting·start (call-thm.met 𝓤 H 𝓜 𝓖 𝓡))
+    (cited 𝓤 H _ 𝓜 𝓡 code.env #storing·store stored-def.routine code.calls-storing·store (stored-thm.met 𝓤 H 𝓜 𝓖 𝓡)))

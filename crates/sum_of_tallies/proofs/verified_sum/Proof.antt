@@ -21,8 +21,8 @@ Inv-loop ids count base k sum₀ i₀ sum i = (i ≤ k)
 abbrev μ-loop : tie.MeasureT-loop
 μ-loop ids count base k sum₀ i₀ sum i = k - i
 
-link-count-requires : tie.Need-link-count-requires Inv-loop μ-loop
-link-count-requires c κs = search needs
+links-in-requires : tie.Need-links-in-requires Inv-loop μ-loop
+links-in-requires c κs = search needs
 
 loop-holds : tie.Need-loop-holds Inv-loop μ-loop
 unfolding Sums.sum
@@ -59,7 +59,7 @@ loop-again c = let m = c .before .before .before in let l = m .loop in let v = c
     )
 
 returns : tie.Need-returns Inv-loop μ-loop
-returns c = let m = c .before in let l = m .loop in let k = m .before .link-count .ensures in let a = m .before .before .args in
+returns c = let m = c .before in let l = m .loop in let k = m .before .links-in .ensures in let a = m .before .before .args in
     let all : l .i ≡ linkCount (a .t1) = unfold linkCount in omega (arith, k) in (
       l .inv .1 .1 ∙ ap (λ (i : ℕ). Sums.sum i (λ m. sumOver (take (a .count) (a .ids)) (λ g. bit (holdsVerify (linkAt (a .t1) m) g)))) all,
       omega (arith, k),
@@ -71,7 +71,7 @@ verified-sum-spec =
     (tie.spec
     Inv-loop
     μ-loop
-    link-count-requires
+    links-in-requires
     loop-holds
     mul-link
     element-copy-out-link

@@ -27,8 +27,8 @@ Inv-loop base k own count₀ i₀ count i = (i ≤ k) × ((count ≤ mostLinks *
 abbrev μ-loop : tie.MeasureT-loop
 μ-loop base k own count₀ i₀ count i = k - i
 
-link-count-requires : tie.Need-link-count-requires Inv-loop2 μ-loop2 Inv-loop μ-loop
-link-count-requires c κs = search needs
+links-in-requires : tie.Need-links-in-requires Inv-loop2 μ-loop2 Inv-loop μ-loop
+links-in-requires c κs = search needs
 
 loop-holds : tie.Need-loop-holds Inv-loop2 μ-loop2 Inv-loop μ-loop
 unfolding Sums.sum
@@ -38,7 +38,7 @@ mul-link : tie.Need-mul-link Inv-loop2 μ-loop2 Inv-loop μ-loop
 mul-link c = omega arith
 
 element-copy-out-link : tie.Need-element-copy-out-link Inv-loop2 μ-loop2 Inv-loop μ-loop
-element-copy-out-link c = omega (arith, c .before .before .link-count .ensures)
+element-copy-out-link c = omega (arith, c .before .before .links-in .ensures)
 
 suspect-own-requires : tie.Need-suspect-own-requires Inv-loop2 μ-loop2 Inv-loop μ-loop
 suspect-own-requires c κs = search needs
@@ -57,7 +57,7 @@ mul-other : tie.Need-mul-other Inv-loop2 μ-loop2 Inv-loop μ-loop
 mul-other c = omega arith
 
 element-copy-out-other : tie.Need-element-copy-out-other Inv-loop2 μ-loop2 Inv-loop μ-loop
-element-copy-out-other c = omega (arith, c .before .before .before .before .before .before .before .link-count .ensures)
+element-copy-out-other c = omega (arith, c .before .before .before .before .before .before .before .links-in .ensures)
 
 suspect-pair-requires : tie.Need-suspect-pair-requires Inv-loop2 μ-loop2 Inv-loop μ-loop
 suspect-pair-requires c κs = search needs
@@ -100,7 +100,7 @@ loop-again c = let p = c .before .before in let s = p .before .before .before .b
     let own = o .0 ∙ ap bit (p .before .suspect-own .ensures) in (
       omega arith,
       (
-        omega (arith, o, s .before .link-count .ensures),
+        omega (arith, o, s .before .links-in .ensures),
         pairs-grow (λ i j. bit (suspectPair (linkAt b i) (linkAt b j))) (λ i. bit (suspectOwn (b .own) (linkAt b i)))
             (l .i) (m .j) (l .count) _ (m .count) (l .inv .1 .1) own (m .inv .1 .1) (omega arith),
       ),
@@ -109,7 +109,7 @@ loop-again c = let p = c .before .before in let s = p .before .before .before .b
 returns : tie.Need-returns Inv-loop2 μ-loop2 Inv-loop μ-loop
 unfolding suspects pairs links linkCount
 returns c = let b = c .before .before .before .args .t1 in let l = c .before .loop in
-    let e : l .i ≡ linkCount b = unfold linkCount in omega (arith, c .before .before .link-count .ensures) in
+    let e : l .i ≡ linkCount b = unfold linkCount in omega (arith, c .before .before .links-in .ensures) in
     l .inv .1 .1 ∙ ap (λ (i : ℕ). Sums.sum i (λ m. Sums.sum m (λ j. bit (suspectPair (linkAt b m) (linkAt b j))))
     + Sums.sum i (λ m. bit (suspectOwn (b .own) (linkAt b m)))) e
 
@@ -121,7 +121,7 @@ suspect-count-spec =
     μ-loop2
     Inv-loop
     μ-loop
-    link-count-requires
+    links-in-requires
     loop-holds
     mul-link
     element-copy-out-link

@@ -16,8 +16,8 @@ Inv-loop g base k count₀ i₀ count i = Counted base (λ l. holdsVerify l g) k
 abbrev μ-loop : tie.MeasureT-loop
 μ-loop g base k count₀ i₀ count i = k - i
 
-link-count-requires : tie.Need-link-count-requires Inv-loop μ-loop
-link-count-requires c κs = search needs
+links-in-requires : tie.Need-links-in-requires Inv-loop μ-loop
+links-in-requires c κs = search needs
 
 loop-holds : tie.Need-loop-holds Inv-loop μ-loop
 loop-holds c = counted-none _ _ _
@@ -49,7 +49,7 @@ loop-again c = let s = c .before .before .before in
     counted-next _ _ (s .before .loop .inv) (s .loop-test .taken) refl (c .one .ensures .0 ∙ ap bit (c .before .holds-verify .ensures))
 
 returns : tie.Need-returns Inv-loop μ-loop
-returns c = counted-all _ _ (c .before .loop .inv) (omega arith) (c .before .before .link-count .ensures)
+returns c = counted-all _ _ (c .before .loop .inv) (omega arith) (c .before .before .links-in .ensures)
 
 pub verify-links-spec : {M : Type 1} → statement M
 verify-links-spec =
@@ -57,7 +57,7 @@ verify-links-spec =
     (tie.spec
     Inv-loop
     μ-loop
-    link-count-requires
+    links-in-requires
     loop-holds
     mul-link
     element-copy-out-link

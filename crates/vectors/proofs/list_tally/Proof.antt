@@ -19,8 +19,8 @@ Inv-loop v base k count₀ i₀ count i = Counted base (λ l. holdsList (base .n
 abbrev μ-loop : tie.MeasureT-loop
 μ-loop v base k count₀ i₀ count i = k - i
 
-link-count-requires : tie.Need-link-count-requires Inv-loop μ-loop
-link-count-requires c κs = search needs
+links-in-requires : tie.Need-links-in-requires Inv-loop μ-loop
+links-in-requires c κs = search needs
 
 loop-holds : tie.Need-loop-holds Inv-loop μ-loop
 loop-holds c = counted-none _ _ _
@@ -64,7 +64,7 @@ loop-again c = let h = c .before .before .before in let s = h .before .before in
 
 returns : tie.Need-returns Inv-loop μ-loop
 unfolding listTally
-returns c = counted-all _ _ (c .before .loop .inv) (omega arith) (c .before .before .link-count .ensures)
+returns c = counted-all _ _ (c .before .loop .inv) (omega arith) (c .before .before .links-in .ensures)
 
 pub list-tally-spec : {M : Type 1} → statement M
 list-tally-spec =
@@ -72,7 +72,7 @@ list-tally-spec =
     (tie.spec
     Inv-loop
     μ-loop
-    link-count-requires
+    links-in-requires
     loop-holds
     mul-link
     element-copy-out-link

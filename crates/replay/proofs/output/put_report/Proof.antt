@@ -39,7 +39,7 @@ all-lines c = let P = entry c .pre in
     lines-walked (text c) (begin c) (length (text c)) (P .0 .1 (c .before .before .if1 .left)) (omega (arith, P .0 .0, P .1 .0))
 
 walks : (c : tie.After-line-steps) → c .line-steps .result ≡ repeat (length (text c)) (nextLine replaying (text c)) (begin c)
-walks c = c .line-steps .ensures ∙ ap (repeat (length (text c)) (lineAfter (text c))) (c .before .begun .ensures) ∙ all-lines c .is
+walks c = c .line-steps .ensures ∙ ap (repeat (length (text c)) (lineAfter (text c))) (c .before .begun-net .ensures) ∙ all-lines c .is
 
 bases : (c : tie.After-line-steps) → c .line-steps .result .n ≤ mostBases
 unfolding begunNet
@@ -66,8 +66,8 @@ returns c =
       omega (arith, c .before .before .refused-line .ensures .1 .1),
     )
 
-begun-requires : tie.Need-begun-requires
-begun-requires c κs = tt
+begun-net-requires : tie.Need-begun-net-requires
+begun-net-requires c κs = tt
 
 line-steps-requires : tie.Need-line-steps-requires
 line-steps-requires c κs = tt
@@ -125,7 +125,7 @@ put-report-spec =
     refused-line-requires
     same-length
     returns
-    begun-requires
+    begun-net-requires
     line-steps-requires
     refused-line-requires-2
     same-length-2

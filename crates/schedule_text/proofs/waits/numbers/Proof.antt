@@ -16,8 +16,8 @@ loop-holds c = search needs
 add-k : tie.Need-add-k Inv-loop μ-loop
 add-k c = search needs
 
-heard-requires : tie.Need-heard-requires Inv-loop μ-loop
-heard-requires c κs = search needs
+heard-by-requires : tie.Need-heard-by-requires Inv-loop μ-loop
+heard-by-requires c κs = search needs
 
 slice-aggregate-with-numbers : tie.Need-slice-aggregate-with-numbers Inv-loop μ-loop
 slice-aggregate-with-numbers c = search needs
@@ -54,7 +54,7 @@ numbers-spec =
     μ-loop
     loop-holds
     add-k
-    heard-requires
+    heard-by-requires
     slice-aggregate-with-numbers
     with-numbers-requires
     loop-less

@@ -10,8 +10,8 @@ Inv-loop b base k named₀ i₀ named i = i ≤ k
 abbrev μ-loop : tie.MeasureT-loop
 μ-loop b base k named₀ i₀ named i = k - i
 
-link-count-requires : tie.Need-link-count-requires Inv-loop μ-loop
-link-count-requires c κs = search needs
+links-in-requires : tie.Need-links-in-requires Inv-loop μ-loop
+links-in-requires c κs = search needs
 
 loop-holds : tie.Need-loop-holds Inv-loop μ-loop
 loop-holds c = search needs
@@ -37,7 +37,7 @@ pairs-spec =
     (tie.spec
     Inv-loop
     μ-loop
-    link-count-requires
+    links-in-requires
     loop-holds
     add-i
     pairs-of-requires

@@ -1,0 +1,117 @@
+-- An arrival by the base's state: at a running base the message alone, at an idle one the two frames of the start and the message's
+-- frame behind them.
+use Prim.Native.Nat.{ℕ, _-_, _≤_, _<_}
+use mathlib.Core.Path.{_≡_, refl, sym, ap, _∙_}
+use mathlib.Core.Logic.{_≢_}
+use mathlib.Core.List.{List, [], _∷_, _++_}
+use native.Mathlib.Omega.{arith}
+use borrow.Author.Tests.{lt-leb, ne-eqb}
+use lib.Dec.{eqb}
+use lib.ListN.{length, take, getD, length-take}
+use Rattle.limits.specs.Limits.{mostBases, frameBytes, outputRoom}
+use Rattle.limits.specs.Refusals.{NetSize}
+use Rattle.lists.specs.Choice.Laws.{choose-ind, choose-no}
+use Rattle.frame.specs.Message.{Message, announce, verify, kindOf, idsOf, expected}
+use Rattle.frame.specs.Message.Laws.{expected-range}
+use Rattle.frame.specs.Reading.{message}
+use Rattle.frame.specs.Encoding.{encode, over}
+use Rattle.frame.specs.Encoding.Laws.{length-frame}
+use Rattle.protocol.specs.declared.Base.{Base}
+use Rattle.protocol.specs.declared.Outcome.the-variants.{Accepted, Discarded}
+use Rattle.protocol.specs.Sound.{idle, stopped, recordRefusal}
+use Rattle.protocol.specs.Sound.Laws.{record-passed}
+use Rattle.protocol.specs.Steps.{Answer, accepted, discarded, refused, Done, accepts, withState, begins, onMessage, arrivalStep}
+use Rattle.protocol.specs.Steps.{encodeAll, lengths, outcomeOf, outputOf}
+use Rattle.protocol.specs.Steps.Cases.{begun, afterStart}
+use Rattle.protocol.specs.Steps.Sizes.{message-brief, said-fits}
+use Rattle.change.specs.declared.Change.{Change}
+use Rattle.change.specs.Change.{changedBase, Does}
+use Rattle.change.specs.Heard.{messageIn}
+use Rattle.broadcasting.specs.Broadcasting.{behindStart}
+use Rattle.settling.specs.Settling.{withinLinks}
+use Rattle.settling.specs.Settling.Places.{within-same}
+use Rattle.hearing.specs.Hearing.Decided.Frames.{encode-append}
+
+-- a record that is not turned down, and one of its links
+pub record Ready (b : Base) (i : ℕ) : Type 0 where
+  pub refusal : recordRefusal b ≡ 0
+  pub here : i < b .n - 1
+
+pub ready-within : (b : Base) (i : ℕ) → Ready b i → withinLinks i ≡ i
+ready-within b i R = within-same i (omega (arith, R .here, record-passed b (R .refusal) .net .most))
+
+-- ---- the output that a message needs
+abbrev Few : ℕ → Message → Type 0
+Few most m = length (idsOf m) ≤ most
+
+message-ids : (kind : ℕ) (ids : List ℕ) (most : ℕ) → 1 ≤ most → length ids ≤ most → Few most (message kind ids)
+unfolding message idsOf
+message-ids kind ids most some h =
+    choose-ind (Few most) (eqb kind 1) (λ _. some)
+    (λ _. choose-ind (Few most) (eqb kind 2) (λ _. some) (λ _. choose-ind (Few most) (eqb kind 3) (λ _. h) (λ _. h)))
+
+pub message-room : (b : Base) (i kind : ℕ) (ids : List ℕ) → NetSize (b .n)
+    → length (encodeAll (onMessage b i (messageIn (b .n) kind ids) .says)) ≤ outputRoom
+unfolding messageIn
+message-room b i kind ids N =
+    let few : length (idsOf (messageIn (b .n) kind ids)) ≤ mostBases =
+    message-ids kind (take (expected kind (b .n)) ids) mostBases (omega arith)
+    (omega (arith, length-take (expected kind (b .n)) ids, expected-range kind (b .n) mostBases (omega (arith, N .least)) (N .most) .1)) in
+    omega (arith, message-brief b i (messageIn (b .n) kind ids) (N .most) few .small, said-fits (messageIn (b .n) kind ids) few)
+
+-- ---- a base that runs
+runs : (b : Base) → b .state ≡ 1 → b ≡ begun b
+unfolding withState
+runs b e =
+    λ j. record { n = b .n; t = b .t; state = e j; sent = b .sent; own = b .own; «final_list» = b .«final_list»; links = b .links }
+
+pub arrival-running : (b : Base) (i : ℕ) (m : Message) → b .state < 2 → b .state ≢ 0 → arrivalStep b i m ≡ onMessage (begun b) i m
+unfolding arrivalStep stopped idle
+arrival-running b i m h k =
+    choose-no _ _ (lt-leb 2 (b .state) h) ∙ choose-no _ _ (ne-eqb (b .state) 0 k)
+    ∙ ap (λ (x : Base). onMessage x i m) (runs b (one (b .state) h k))
+  where
+    one : (s : ℕ) → s < 2 → s ≢ 0 → s ≡ 1
+    one s p q = omega (arith, q)
+
+-- ---- a base that starts first
+announce-long : (own : ℕ) → frameBytes 1 ≡ length (encode (announce own))
+unfolding encode kindOf idsOf
+announce-long own = sym (length-frame 1 (own ∷ []))
+
+verify-long : (own : ℕ) → frameBytes 1 ≡ length (encode (verify own))
+unfolding encode kindOf idsOf
+verify-long own = sym (length-frame 2 (own ∷ []))
+
+behind-outcome : (x y : ℕ) (a : Answer) (own : ℕ) (says : List Message) → x ≡ frameBytes 1 → y ≡ frameBytes 1
+    → behindStart x y (outcomeOf a says) ≡ outcomeOf a (announce own ∷ (verify own ∷ says))
+unfolding behindStart outcomeOf lengths
+behind-outcome x y accepted own says e f =
+    λ i. Accepted ((e ∙ announce-long own) i) ((f ∙ verify-long own) i) (getD (lengths says) 0 0)
+behind-outcome x y discarded own says e f =
+    λ i. Discarded ((e ∙ announce-long own) i) ((f ∙ verify-long own) i) (getD (lengths says) 0 0)
+behind-outcome x y (refused r) own says e f = refl
+
+behind-output : (b : Base) (d : Done) (output after : List ℕ) → after ≡ over (encodeAll (begins b .says) ++ encodeAll (d .says)) output
+    → after ≡ outputOf (afterStart b d) output
+unfolding outputOf afterStart begins accepts
+behind-output b d output after p =
+    p ∙ ap (λ (f : List ℕ). over f output) (sym (encode-append (announce (b .own) ∷ (verify (b .own) ∷ [])) (d .says)))
+
+pub behind-does : (b : Base) (d : Done) (rest c : Change) (x y : ℕ) (part done output after : List ℕ) → Does b d rest part done
+    → x ≡ frameBytes 1 → y ≡ frameBytes 1 → c .outcome ≡ behindStart x y (rest .outcome) → changedBase b c ≡ changedBase b rest
+    → after ≡ over (encodeAll (begins b .says) ++ encodeAll (d .says)) output → Does b (afterStart b d) c output after
+behind-does b d rest c x y part done output after R e f p q w = record {
+  changes = record {
+    outcome = p ∙ ap (behindStart x y) (R .changes .outcome) ∙ behind-outcome x y (d .answer) (b .own) (d .says) e f ∙ answers;
+    base = q ∙ R .changes .base ∙ base;
+  };
+  written = behind-output b d output after w;
+}
+  where
+    answers : outcomeOf (d .answer) (announce (b .own) ∷ (verify (b .own) ∷ d .says))
+        ≡ outcomeOf (afterStart b d .answer) (afterStart b d .says)
+    answers = unfold afterStart in refl
+
+    base : d .base ≡ afterStart b d .base
+    base = unfold afterStart in refl
