@@ -109,7 +109,8 @@ module _ (b : Base) (link number kind : ℕ) (ids output : List ℕ) (passes : h
         behindStart (startLength (length output)) (startLength (length output)) (responseOutcome (b .n) (a .accepted) D ids l)
 
     starts : Sized b → idle b ≡ true → r ≡ firstChange (b .n) (b .own) (link - 1) a D ids (length output)
-        → after ≡ over (firstFrames (b .n) (b .own) (a .accepted) D ids (length output)) output → Does b (afterStart b m) r output after
+        → after ≡ over (firstFrames (b .n) (b .own) (a .accepted) D ids (length output)) output
+        → Does b (afterStart b m) r output after
     unfolding m start firstOutcome firstChange firstFrames responseChange changedBase outputOf
     starts Z k p q =
         let room = length output in

@@ -38,7 +38,8 @@ place-passed b link room e =
     record { ready = record { refusal = p .0; here = omega (arith, l) }; some = l .0; wide = output-passed room (q .1) }
 
 -- ---- what 8, 9, 11 and 12 leave
-zeros-behind : (ids : List ℕ) (k : ℕ) → length ids ≡ mostBases → k ≤ mostBases → zeros (drop k ids) ≡ true → HoldsFirst k ids
+zeros-behind : (ids : List ℕ) (k : ℕ) → length ids ≡ mostBases → k ≤ mostBases → zeros (drop k ids) ≡ true
+    → HoldsFirst k ids
 unfolding padTo
 zeros-behind ids k l h z =
     let t = length-take-le k ids (omega arith) in
@@ -51,7 +52,8 @@ unfolding choose
 behind-zero true r e = refl
 behind-zero false r e = absurd (omega arith)
 
-pub message-passed : (n kind : ℕ) (ids : List ℕ) → 1 ≤ n → n ≤ mostBases → length ids ≡ mostBases → messageRefusal n kind ids ≡ 0
+pub message-passed : (n kind : ℕ) (ids : List ℕ) → 1 ≤ n → n ≤ mostBases → length ids ≡ mostBases
+    → messageRefusal n kind ids ≡ 0
     → MessageIn n kind ids
 unfolding messageRefusal
 message-passed n kind ids some most l e =
@@ -62,7 +64,8 @@ message-passed n kind ids some most l e =
 
 -- ---- the call
 module _ (b : Base) (link number kind : ℕ) (ids : List ℕ) (room : ℕ) where
-  pub heard-down : (r : ℕ) → r ≡ hearRefusal b link number kind ids room → r ≢ 0 → messageArrival b link number kind ids room ≡ refuses b r
+  pub heard-down : (r : ℕ) → r ≡ hearRefusal b link number kind ids room → r ≢ 0
+      → messageArrival b link number kind ids room ≡ refuses b r
   unfolding messageArrival
   heard-down r e h = unless-refused b _ (λ z. h (e ∙ z)) ∙ ap (refuses b) (sym e)
 

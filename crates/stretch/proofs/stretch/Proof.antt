@@ -1,4 +1,4 @@
--- `stretch::stretch` meets its contract: a reading that is a message has the body's place, and 4 × count bytes from there are in the burst.
+-- `stretch::stretch` meets its contract: a message that was read has its body's place, and 4 × count bytes from there are in the burst.
 use mathlib.Core.Path.{_≡_, refl, sym, _∙_}
 use native.Mathlib.Omega.{arith}
 use borrow.Author.Needs.{needs}

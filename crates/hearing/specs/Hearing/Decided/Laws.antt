@@ -45,7 +45,8 @@ pub record DecidedAs (c : Base) (d : Decision) (ids : List ℕ) (k : Done) : Typ
   pub list : d .stops ≡ true → length (take (c .n) (d .«final_list»)) ≡ c .n
   pub first : FirstKind (d .first)
 
-runs-decides : (c : Base) (first sent : ℕ) (ids : List ℕ) (said : List Message) → FirstKind first → firstSaid (c .n) first ids ≡ said
+runs-decides : (c : Base) (first sent : ℕ) (ids : List ℕ) (said : List Message) → FirstKind first
+    → firstSaid (c .n) first ids ≡ said
     → DecidedAs c (runsOn c first sent) ids
     (accepts (record {
       n = c .n;
