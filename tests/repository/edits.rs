@@ -15,6 +15,13 @@ type Edit = (String, String);
 /// Such an edit shows nothing.
 const MISFITS: [&str; 5] = ["has no field", "has no `Need-", "is not in scope", "is applied to an argument", "was not determined"];
 
+/// What a step of a proof says that finds nothing to rewrite in the goal. Where every step that is refused says so, no goal was left open,
+/// and the edit shows nothing either.
+const NO_PLACE: [&str; 2] = ["no occurrence of", "no equation of the list has an instance"];
+
+/// What stands on a declaration that is refused is refused with it.
+const FOLLOWS: &str = "was not admitted";
+
 pub fn check() -> Result<String, Vec<String>> {
     let there = there();
     let promises = text_of("docs/PROMISES.md").map_err(|error| vec![error])?;
@@ -84,8 +91,11 @@ pub fn check_tried() -> Result<String, Vec<String>> {
 /// that finds nothing to prove; code that the compiler refuses is told by rt itself.
 fn misfit(log: &str) -> Option<&str> {
     let errors = log.lines().filter_map(|line| Some(line.split_once(": error: ")?.1));
-    let mut misfits = errors.filter(|what| !what.starts_with('`') || MISFITS.iter().any(|words| what.contains(words)));
-    misfits.next()
+    let refused: Vec<&str> = errors.filter(|what| !what.contains(FOLLOWS)).collect();
+    let says = |what: &str, phrases: &[&str]| phrases.iter().any(|words| what.contains(words));
+    let misfit = refused.iter().find(|what| !what.starts_with('`') || says(what, &MISFITS));
+    let placeless = refused.iter().all(|what| says(what, &NO_PLACE));
+    misfit.or(refused.first().filter(|_| placeless)).copied()
 }
 
 #[cfg(test)]
@@ -105,5 +115,10 @@ mod tests {
         ] {
             assert_eq!(misfit(&format!("{fact}specs/Lists.antt:49:36: error: {what}\n")), Some(what));
         }
+        let placeless = "`returns-2`: `rw`: no occurrence of the path's left endpoint in the goal";
+        let follows = "`two-spec`: `returns-2` was not admitted";
+        let log = format!("proofs/two/Proof.antt:9:3: error: {placeless}\nproofs/two/Proof.antt:20:5: error: {follows}\n");
+        assert_eq!(misfit(&log), Some(placeless));
+        assert_eq!(misfit(&format!("{log}{fact}")), None);
     }
 }
