@@ -82,7 +82,7 @@ fn verified(n: u8, link: Link, g: u32) -> Accepted
     }
 }
 
-fn holding(discarded: bool, kind: u16, link: Link, v: [u32; MOST_BASES]) -> Accepted
+fn listed(discarded: bool, kind: u16, link: Link, v: [u32; MOST_BASES]) -> Accepted
     ensures { λ r. ⌜ r ≡ onVectorLink discarded kind link v ⌝ }
 {
     if discarded {
@@ -109,13 +109,13 @@ pub fn accept(n: u8, certified: bool, link: Link, kind: u8, ids: [u32; MOST_BASE
     match kind {
         ANNOUNCE => announced(n, certified, link, g),
         VERIFY => verified(n, link, g),
-        CORRECT_FINAL => holding(
+        CORRECT_FINAL => listed(
             link.held == HELD_CORRECT_FINAL,
             HELD_CORRECT_FINAL,
             link,
             ids,
         ),
-        VERIFY_FINAL => holding(link.held != HELD_NOTHING, HELD_VERIFY_FINAL, link, ids),
+        VERIFY_FINAL => listed(link.held != HELD_NOTHING, HELD_VERIFY_FINAL, link, ids),
         _ => Accepted {
             accepted: false,
             link,

@@ -22,12 +22,12 @@ fn right_distance(back: usize, right: usize, length: usize) {
     with_numbers(b", where # belongs)", [right, 0, 0]);
 }
 
-fn back_distance(back: usize, count: u8, length: usize) {
+fn distance_alone(back: usize, count: u8, length: usize) {
     with_numbers(b" (back distance #", [back, 0, 0]);
     right_distance(back, frame_bytes(count), length);
 }
 
-fn wide(high: u8, low: u8) -> usize {
+fn two_bytes(high: u8, low: u8) -> usize {
     (high as usize) * 256 + (low as usize)
 }
 
@@ -35,16 +35,16 @@ fn values(refusal: u8, kind: u8, count: u8, back: usize, length: usize) {
     match refusal {
         KIND => kind_alone(kind),
         COUNT => kind_and_count(kind, count),
-        BACK_DISTANCE => back_distance(back, count, length),
+        BACK_DISTANCE => distance_alone(back, count, length),
         _ => {}
     }
 }
 
-pub(crate) fn shown(refusal: u8, burst: &[u8]) {
+pub(crate) fn trailer_shown(refusal: u8, burst: &[u8]) {
     if burst.len() < TRAILER_BYTES {
         return;
     }
     let place = burst.len() - TRAILER_BYTES;
-    let back = wide(burst[place + 2], burst[place + 3]);
+    let back = two_bytes(burst[place + 2], burst[place + 3]);
     values(refusal, burst[place], burst[place + 1], back, burst.len());
 }

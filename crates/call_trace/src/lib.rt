@@ -91,10 +91,10 @@ fn started(b: u8, base: Base, made: usize) {
     let mut frames = [0u8; OUTPUT_ROOM];
     let change = start(base, &mut frames);
     let outcome = change.outcome;
-    starts(b, base.n, made, outcome_numbers(outcome), &frames);
+    start_led(b, base.n, made, outcome_numbers(outcome), &frames);
 }
 
-fn starts(b: u8, n: u8, made: usize, answer: CallAnswer, frames: &[u8]) {
+fn start_led(b: u8, n: u8, made: usize, answer: CallAnswer, frames: &[u8]) {
     say::base(b, b" starts\n");
     of_start(b, n, made, answer, frames);
 }
@@ -108,7 +108,7 @@ fn answered_first(caller: Caller, after: Base, answer: CallAnswer, burst: &[u8],
 }
 
 // What a message that was heard led to.
-fn answered(
+fn answered_running(
     caller: Caller,
     sent: u8,
     after: Base,
@@ -135,12 +135,12 @@ fn arrived(
 ) {
     let accepted = answer.outcome == ACCEPTED;
     if base.state == IDLE {
-        starts(caller.b, base.n, caller.made, answer, frames);
+        start_led(caller.b, base.n, caller.made, answer, frames);
         say_heard(caller.b, base, arrival, accepted, burst);
         return answered_first(caller, after, answer, burst, frames);
     }
     say_heard(caller.b, base, arrival, accepted, burst);
-    answered(caller, base.sent, after, answer, burst, frames);
+    answered_running(caller, base.sent, after, answer, burst, frames);
 }
 
 // A burst arrives at base b, which had made so many broadcasts.

@@ -20,17 +20,17 @@ const SHOWN: usize = 80;
 
 const LAST: usize = 20;
 
-fn digit(v: usize) -> u8 {
+fn last_digit(v: usize) -> u8 {
     b'0' + (v % 10) as u8
 }
 
 // `65,536`, as the limits are written
-fn length(v: usize) {
+fn grouped(v: usize) {
     if v < 1000 {
         return number(v);
     }
     number(v / 1000);
-    text(&[b',', digit(v / 100), digit(v / 10), digit(v)]);
+    text(&[b',', last_digit(v / 100), last_digit(v / 10), last_digit(v)]);
 }
 
 // The last bytes of a line that is cut. Of a schedule that is too long no more is read than shows that it is.
@@ -62,7 +62,7 @@ fn size(count: usize) {
         return text(b" (more than 65,536 bytes)");
     }
     text(b" (");
-    length(count);
+    grouped(count);
     text(b" bytes)");
 }
 
@@ -86,7 +86,7 @@ fn plural(count: usize) {
 }
 
 // What a byte of a sentence stands for, or else the byte itself.
-fn put(sign: u8, cause: Cause, kind: usize, line: &[u8]) {
+fn put_sign(sign: u8, cause: Cause, kind: usize, line: &[u8]) {
     match sign {
         b'#' => number(cause.number),
         b'~' => plural(cause.number),
@@ -104,7 +104,7 @@ fn put(sign: u8, cause: Cause, kind: usize, line: &[u8]) {
 fn sentence(words: &[u8], cause: Cause, kind: usize, line: &[u8]) {
     let mut i: usize = 0;
     while i < words.len() {
-        put(words[i], cause, kind, line);
+        put_sign(words[i], cause, kind, line);
         i += 1;
     }
 }

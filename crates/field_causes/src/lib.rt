@@ -51,11 +51,11 @@ fn number_fault(bytes: &[u8]) -> usize {
     sentences::LEADING_ZERO
 }
 
-fn decimal(line: &[u8], i: usize) -> Cause {
+fn decimal_cause(line: &[u8], i: usize) -> Cause {
     of_field(number_fault(field(line, i)), i, 0)
 }
 
-fn is_base(line: &[u8], i: usize, n: usize) -> bool {
+fn in_net(line: &[u8], i: usize, n: usize) -> bool {
     let b = value(line, i);
     if 0 < b {
         return b <= n;
@@ -73,7 +73,7 @@ pub fn hex_hint(kind: usize, line: &[u8], n: usize) -> Cause {
         return of_byte(sentences::HEX_TOGETHER, line, nth_place(line, SPACE, 3));
     }
     if count == 2 {
-        if is_base(line, 2, n) {
+        if in_net(line, 2, n) {
             return said(sentences::SPACE_BEFORE_HEX);
         }
     }
@@ -81,7 +81,7 @@ pub fn hex_hint(kind: usize, line: &[u8], n: usize) -> Cause {
 }
 
 // A digit of hex that there is not.
-fn hex_digit(line: &[u8]) -> Cause {
+fn hex_digit_cause(line: &[u8]) -> Cause {
     let digits = field(line, 3);
     let place = first_place(digits, NO_HEX_DIGIT);
     let mut sentence = sentences::NOT_HEX;
@@ -104,13 +104,13 @@ fn hex_length(length: usize) -> Cause {
 
 fn third(kind: usize, line: &[u8]) -> Cause {
     if kind == FORGE {
-        return first_cause(hex_digit(line), hex_length(field(line, 3).len()));
+        return first_cause(hex_digit_cause(line), hex_length(field(line, 3).len()));
     }
-    decimal(line, 3)
+    decimal_cause(line, 3)
 }
 
-fn base(line: &[u8], i: usize, n: usize) -> Cause {
-    if is_base(line, i, n) {
+fn base_cause(line: &[u8], i: usize, n: usize) -> Cause {
+    if in_net(line, i, n) {
         return said(NONE);
     }
     of_field(sentences::NO_BASE, i, n)
@@ -118,7 +118,7 @@ fn base(line: &[u8], i: usize, n: usize) -> Cause {
 
 // Two different bases of the net.
 fn bases(line: &[u8], n: usize) -> Cause {
-    let both = first_cause(base(line, 1, n), base(line, 2, n));
+    let both = first_cause(base_cause(line, 1, n), base_cause(line, 2, n));
     if value(line, 1) == value(line, 2) {
         return first_cause(both, said(sentences::SAME_BASE));
     }
@@ -150,7 +150,7 @@ fn id(line: &[u8], number: usize, n: usize) -> Cause {
         return of_field(sentences::OTHER_BASE, 1, between(0, number));
     }
     let again = of_field(sentences::ID_AGAIN, 1, plus(value(line, 1), 1));
-    first_cause(base(line, 1, n), again)
+    first_cause(base_cause(line, 1, n), again)
 }
 
 // The fields together, and held against the net.
@@ -159,7 +159,7 @@ fn together(kind: usize, s: &[u8], line: &[u8], number: usize, n: usize) -> Caus
         NET => said(NONE),
         ID => id(line, number, n),
         FAULTY => first_cause(bases(line, n), faulty(s, line)),
-        START => base(line, 1, n),
+        START => base_cause(line, 1, n),
         CARRY => first_cause(bases(line, n), said(sentences::NUMBER_ZERO)),
         _ => bases(line, n),
     }
@@ -168,8 +168,8 @@ fn together(kind: usize, s: &[u8], line: &[u8], number: usize, n: usize) -> Caus
 // Each field by itself.
 fn each(kind: usize, line: &[u8]) -> Cause {
     first_cause(
-        decimal(line, 1),
-        first_cause(decimal(line, 2), third(kind, line)),
+        decimal_cause(line, 1),
+        first_cause(decimal_cause(line, 2), third(kind, line)),
     )
 }
 

@@ -27,7 +27,7 @@ fn with_digit(value: usize, sign: u8) -> usize {
     value * 10 + (sign % 16 % 10) as usize
 }
 
-fn decimal(digits: &[u8]) -> usize {
+fn decimal_field(digits: &[u8]) -> usize {
     let mut value: usize = 0;
     let mut i: usize = 0;
     while i < digits.len() {
@@ -39,14 +39,14 @@ fn decimal(digits: &[u8]) -> usize {
 
 // The number in a field.
 pub(crate) fn count(line: &[u8], i: usize) -> usize {
-    decimal(field(line, i))
+    decimal_field(field(line, i))
 }
 
 pub(crate) fn small(line: &[u8], i: usize) -> u8 {
     (count(line, i) % 256) as u8
 }
 
-fn identifier(line: &[u8], i: usize) -> u32 {
+fn identifier_field(line: &[u8], i: usize) -> u32 {
     (count(line, i) % 4294967296) as u32
 }
 
@@ -56,7 +56,7 @@ fn byte_at(digits: &[u8], i: usize) -> u8 {
     byte[0]
 }
 
-pub(crate) fn hex(digits: &[u8]) -> [u8; BYTES] {
+pub(crate) fn hex_field(digits: &[u8]) -> [u8; BYTES] {
     let mut bytes = [0u8; BYTES];
     let mut i: usize = 0;
     while i < BYTES {
@@ -76,7 +76,7 @@ pub(crate) fn ids_from(line: &[u8], from: usize) -> [u32; IDENTIFIERS] {
     let mut ids = [0u32; IDENTIFIERS];
     let mut i: usize = 0;
     while i < IDENTIFIERS {
-        ids[i] = identifier(line, plus(from, i));
+        ids[i] = identifier_field(line, plus(from, i));
         i += 1;
     }
     ids

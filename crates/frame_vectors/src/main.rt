@@ -28,12 +28,12 @@ fn all(text: &[u8]) {
             return;
         }
         let line = line_at(text, at);
-        one(line);
+        vector(line);
         at = plus(plus(at, line.len()), 1);
     }
 }
 
-fn one(line: &[u8]) {
+fn vector(line: &[u8]) {
     match line::letter(line) {
         b'r' => reads(line),
         b'w' => writes(line),
@@ -44,7 +44,7 @@ fn one(line: &[u8]) {
 
 fn reads(line: &[u8]) {
     let digits = field(line, 2);
-    let bytes = line::hex(digits);
+    let bytes = line::hex_field(digits);
     show::reading(count(line, 1), part(&bytes, 0, digits.len() / 2));
 }
 

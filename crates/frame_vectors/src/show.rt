@@ -16,7 +16,7 @@ fn two_digits(b: u8) {
     io::print_hex(STDOUT_FILENO, b as u64, 2);
 }
 
-fn hex(s: &[u8]) {
+fn hex_digits(s: &[u8]) {
     let mut i: usize = 0;
     while i < s.len() {
         two_digits(s[i]);
@@ -26,7 +26,7 @@ fn hex(s: &[u8]) {
 
 fn bytes(s: &[u8]) {
     text(b" [");
-    hex(s);
+    hex_digits(s);
     text(b"]");
 }
 
@@ -50,7 +50,7 @@ pub(crate) fn reading(n: usize, burst: &[u8]) {
     text(b"\n");
 }
 
-fn length(written: Written) {
+fn written_length(written: Written) {
     match written {
         Written::Length(length) => with_numbers(b"length #", [length, 0, 0]),
         Written::Refused(r) => with_numbers(b"refused #", [r as usize, 0, 0]),
@@ -65,7 +65,7 @@ fn output_line(output: &[u8]) {
 
 // The answer of a write, and the output after it.
 pub(crate) fn written(n: usize, kind: u8, ids: &[u32], output: &mut [u8]) {
-    length(writer::write(n, kind, ids, output));
+    written_length(writer::write(n, kind, ids, output));
     output_line(output);
 }
 

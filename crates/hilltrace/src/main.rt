@@ -11,7 +11,7 @@ use replay::roster_replay;
 use schedule_trace::show;
 
 // Whether the report is written.
-fn report(schedule: &[u8]) -> bool {
+fn closing_report(schedule: &[u8]) -> bool {
     let mut report = [0u8; REPORT_ROOM];
     let end = roster_replay(schedule, &mut report);
     io::write_all(STDOUT_FILENO, part(&report, 0, end))
@@ -19,7 +19,7 @@ fn report(schedule: &[u8]) -> bool {
 
 fn trace(schedule: &[u8]) {
     show(schedule);
-    if !report(schedule) {
+    if !closing_report(schedule) {
         os::fail(b"hilltrace: writing standard output");
     }
 }

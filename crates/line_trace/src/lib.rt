@@ -23,7 +23,7 @@ fn arrival_from(a: u8, b: u8, forged: bool) -> Arrival {
     }
 }
 
-fn starts(net: StoredNet, b: u8) {
+fn base_starts(net: StoredNet, b: u8) {
     let node = node_at(net, b);
     show_start(b, node.base, node.count);
 }
@@ -54,7 +54,7 @@ pub fn show_event(s: &[u8], net: StoredNet) {
     match event_line(net.n, s, here) {
         Line::Start { base, next } => {
             show_line(s, here, net.line, next);
-            starts(net, base);
+            base_starts(net, base);
         }
         Line::Carry {
             from,

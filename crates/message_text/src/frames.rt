@@ -25,7 +25,7 @@ fn say_broadcast(b: u8, n: u8, number: usize, frame: &[u8]) {
 
 // The length of a frame that is to be shown: one before the check, or else the Correct-Final of a base that stops. Next is the
 // length of the frame behind it.
-fn shown(length: usize, next: usize, stops: bool, last: bool) -> usize {
+fn shown_length(length: usize, next: usize, stops: bool, last: bool) -> usize {
     let mut is_last = false;
     if stops {
         is_last = next == 0;
@@ -58,11 +58,11 @@ pub fn say_broadcasts(caller: Caller, answer: CallAnswer, last: bool, frames: &[
     let b = caller.b;
     let n = caller.n;
     let made = caller.made;
-    let first = shown(answer.first, answer.second, caller.stops, last);
+    let first = shown_length(answer.first, answer.second, caller.stops, last);
     say_broadcast(b, n, plus(made, 1), part(frames, 0, first));
-    let second = shown(answer.second, answer.third, caller.stops, last);
+    let second = shown_length(answer.second, answer.third, caller.stops, last);
     say_broadcast(b, n, plus(made, 2), part(frames, answer.first, second));
-    let third = shown(answer.third, 0, caller.stops, last);
+    let third = shown_length(answer.third, 0, caller.stops, last);
     let place = plus(answer.first, answer.second);
     say_broadcast(b, n, plus(made, 3), part(frames, place, third));
 }

@@ -8,7 +8,7 @@ use output::text;
 use output::with_numbers;
 use readings::read_numbers;
 
-fn identifier(g: u32) {
+fn one_identifier(g: u32) {
     with_numbers(b" #", [g as usize, 0, 0]);
 }
 
@@ -34,7 +34,7 @@ pub fn each_identifier(ids: [u32; MOST_BASES], count: usize) {
         if count <= i {
             return;
         }
-        identifier(ids[i]);
+        one_identifier(ids[i]);
         i += 1;
     }
 }

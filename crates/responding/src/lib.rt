@@ -10,7 +10,7 @@ ghost use lib.ListN.{length};
 ghost use Rattle.frame.specs.Encoding.{over};
 ghost use Rattle.responding.specs.Responding.{responseFrames, responseOutcome, responseChange};
 
-fn said(
+fn say_response(
     n: u8,
     accepted: bool,
     decision: Decision,
@@ -45,7 +45,7 @@ pub fn respond(
 {
     let link = accepted.link;
     let list = decision.final_list;
-    let outcome = said(n, accepted.accepted, decision, ids, out);
+    let outcome = say_response(n, accepted.accepted, decision, ids, out);
     Change {
         outcome,
         state: decision.state,

@@ -32,7 +32,7 @@ fn unheard_line(receiver: Node, a: u8, b: u8, count: usize) {
     numbers(receiver, a, count);
 }
 
-fn between(net: StoredNet, a: u8, b: u8) {
+fn waits_between(net: StoredNet, a: u8, b: u8) {
     if a == b {
         return;
     }
@@ -47,7 +47,7 @@ fn from(net: StoredNet, a: u8) {
     let mut b: u8 = 0;
     while b < n {
         b += 1;
-        between(net, a, b);
+        waits_between(net, a, b);
     }
 }
 

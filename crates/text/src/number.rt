@@ -12,7 +12,7 @@ pub enum Number {
     Bad,
 }
 
-fn wide(x: u8) -> u64
+fn digit_value(x: u8) -> u64
     ensures { λ r. ⌜ r ≡ x ⌝ }
 {
     x as u64
@@ -33,7 +33,7 @@ fn digits_from(s: &[u8], at: usize, first: u64) -> Number
         if b'9' < b {
             return Number::Value(v as u32, i);
         }
-        let more = v * 10 + wide(b - b'0');
+        let more = v * 10 + digit_value(b - b'0');
         if MOST_NUMBER < more {
             return Number::Bad;
         }
@@ -60,7 +60,7 @@ pub fn number_at(s: &[u8], at: usize) -> Number
     if b == b'0' {
         return Number::Value(0, at + 1);
     }
-    digits_from(s, at + 1, wide(b - b'0'))
+    digits_from(s, at + 1, digit_value(b - b'0'))
 }
 
 // The number at a position, with the byte `close` right behind it; the answer's position is behind that byte.

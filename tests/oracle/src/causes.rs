@@ -3,6 +3,7 @@
 use crate::faults::Fault;
 use crate::limits::{most_faulty, LONGEST_FORGERY, LONGEST_SCHEDULE};
 use crate::reader::Number;
+use crate::refusal::{BASES, CARRIED_BEFORE, FAULTY_LIMIT, FAULTY_LINKS, FORM, NOT_BROADCAST, OWN_IDENTIFIER, SAME_IDENTIFIER};
 use crate::replay::{self, Refused};
 
 /// Bytes of a line or a field that the trace shows.
@@ -26,9 +27,9 @@ pub fn told(schedule: &[u8], refused: Refused) -> (String, Vec<String>) {
     let before: Vec<String> = all.iter().take(refused.line - 1).map(|line| plain(line)).collect();
     let line = Line { number: refused.line, before, words: plain(text).split(' ').map(str::to_string).collect() };
     let causes = match refused.number {
-        13 if schedule.len() > LONGEST_SCHEDULE => vec!["the schedule has more than 65,536 bytes".to_string()],
-        13 if all.len() < refused.line => vec![format!("the schedule ends before line {}", refused.line), line.belongs()],
-        13 => {
+        FORM if schedule.len() > LONGEST_SCHEDULE => vec!["the schedule has more than 65,536 bytes".to_string()],
+        FORM if all.len() < refused.line => vec![format!("the schedule ends before line {}", refused.line), line.belongs()],
+        FORM => {
             let at = all.iter().take(refused.line - 1).map(|line| line.len()).sum();
             let cause = encoding(&schedule[at..]).or_else(|| comment(here)).or_else(|| bytes(here));
             cause.map_or_else(|| line.form(here.ends_with(b"\n")), |cause| vec![cause])
@@ -142,20 +143,20 @@ impl Line {
     fn cause(&self, number: Number, schedule: &[u8]) -> String {
         let (a, b) = (self.base(1), self.base(2));
         match number {
-            1 => format!("n is `{}`", self.word(1)),
-            2 => format!("t is `{b}`, and with so many bases t is at most {}", most_faulty(a)),
-            3 => "an identifier is above zero".to_string(),
-            14 => {
+            BASES => format!("n is `{}`", self.word(1)),
+            FAULTY_LIMIT => format!("t is `{b}`, and with so many bases t is at most {}", most_faulty(a)),
+            OWN_IDENTIFIER => "an identifier is above zero".to_string(),
+            SAME_IDENTIFIER => {
                 let has_it = |line: &String| line.starts_with("id ") && line.split(' ').nth(2) == Some(self.word(2));
                 format!("line {} has it for another base", self.first(has_it))
             }
-            15 => match self.before[0].split(' ').nth(2).unwrap_or_default() {
+            FAULTY_LINKS => match self.before[0].split(' ').nth(2).unwrap_or_default() {
                 "0" => "t is 0, so no link may be named faulty".to_string(),
                 "1" => "t is 1, and 1 is named already".to_string(),
                 t => format!("t is {t}, and {t} are named already"),
             },
-            16 => format!("a is `{a}`, and up to here that base has broadcast {}", counted(self.broadcasts(schedule, a), "message")),
-            17 => format!("line {} is that carry", self.first(|line| *line == self.words.join(" "))),
+            NOT_BROADCAST => format!("a is `{a}`, and up to here that base has broadcast {}", counted(self.broadcasts(schedule, a), "message")),
+            CARRIED_BEFORE => format!("line {} is that carry", self.first(|line| *line == self.words.join(" "))),
             _ => format!("the header has no line `faulty {} {}`", a.min(b), a.max(b)),
         }
     }

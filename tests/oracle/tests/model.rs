@@ -11,6 +11,7 @@ use oracle::message::Message;
 use oracle::model::Model;
 use oracle::net::{Event, Net, Setting};
 use oracle::record::RawBase;
+use oracle::refusal::{CARRIED_BEFORE, FORGED_ON_GOOD, NOT_BROADCAST, OUTPUT};
 use oracle::replay;
 use oracle::rng::Rng;
 use oracle::schedule::render;
@@ -25,15 +26,15 @@ fn two_bases() -> Net {
 fn a_refused_carry_is_not_carried_and_starts_nobody() {
     let (mut net, mut model) = (two_bases(), Model::TRUE);
     let carry = Event::Carry { from: 1, to: 2, k: 1 };
-    assert_eq!(net.happen(&carry, OUTPUT_ROOM, &mut model), Answer::Refused(16));
+    assert_eq!(net.happen(&carry, OUTPUT_ROOM, &mut model), Answer::Refused(NOT_BROADCAST));
     net.happen(&Event::Start { at: 1 }, OUTPUT_ROOM, &mut model);
     assert_eq!(net.waiting(), 2);
-    assert_eq!(net.happen(&carry, OUTPUT_ROOM - 1, &mut model), Answer::Refused(6));
+    assert_eq!(net.happen(&carry, OUTPUT_ROOM - 1, &mut model), Answer::Refused(OUTPUT));
     assert_eq!((net.waiting(), net.started.clone()), (2, vec![true, false]));
     assert_eq!(net.happen(&carry, OUTPUT_ROOM, &mut model), Answer::Accepted([8, 8, 8]));
     assert_eq!((net.waiting(), net.started.clone()), (4, vec![true, true]));
-    assert_eq!(net.happen(&carry, OUTPUT_ROOM, &mut model), Answer::Refused(17));
-    assert_eq!(net.happen(&Event::Forge { from: 1, to: 2, bytes: vec![] }, 0, &mut model), Answer::Refused(18));
+    assert_eq!(net.happen(&carry, OUTPUT_ROOM, &mut model), Answer::Refused(CARRIED_BEFORE));
+    assert_eq!(net.happen(&Event::Forge { from: 1, to: 2, bytes: vec![] }, 0, &mut model), Answer::Refused(FORGED_ON_GOOD));
 }
 
 #[test]

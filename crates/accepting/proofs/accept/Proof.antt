@@ -15,11 +15,11 @@ announced-requires c κs = search needs
 verified-requires : tie.Need-verified-requires
 verified-requires c κs = search needs
 
-holding-requires : tie.Need-holding-requires
-holding-requires c κs = search needs
+listed-requires : tie.Need-listed-requires
+listed-requires c κs = search needs
 
-holding-requires-2 : tie.Need-holding-requires-2
-holding-requires-2 c κs = search needs
+listed-requires-2 : tie.Need-listed-requires-2
+listed-requires-2 c κs = search needs
 
 returns : tie.Need-returns
 unfolding acceptedOn
@@ -31,11 +31,11 @@ returns-2 c = c .verified .ensures ∙ sym (kind-two _ _ _ _ _ (c .before .match
 
 returns-3 : tie.Need-returns-3
 unfolding acceptedOn
-returns-3 c = c .holding .ensures ∙ sym (kind-three _ _ _ _ _ (c .before .before .match .keys3))
+returns-3 c = c .listed .ensures ∙ sym (kind-three _ _ _ _ _ (c .before .before .match .keys3))
 
 returns-4 : tie.Need-returns-4
 unfolding acceptedOn
-returns-4 c = c .holding2 .ensures ∙ sym (kind-four _ _ _ _ _ (c .before .before .match .keys4))
+returns-4 c = c .listed2 .ensures ∙ sym (kind-four _ _ _ _ _ (c .before .before .match .keys4))
 
 returns-5 : tie.Need-returns-5
 unfolding acceptedOn
@@ -48,8 +48,8 @@ accept-spec =
     array-read-g
     announced-requires
     verified-requires
-    holding-requires
-    holding-requires-2
+    listed-requires
+    listed-requires-2
     returns
     returns-2
     returns-3

@@ -23,8 +23,8 @@ returns c = search needs
 line-at-requires : tie.Need-line-at-requires Inv-loop μ-loop
 line-at-requires c κs = search needs
 
-one-requires : tie.Need-one-requires Inv-loop μ-loop
-one-requires c κs = search needs
+vector-requires : tie.Need-vector-requires Inv-loop μ-loop
+vector-requires c κs = search needs
 
 plus-requires : tie.Need-plus-requires Inv-loop μ-loop
 plus-requires c κs = search needs
@@ -51,7 +51,7 @@ all-spec =
     add-k
     returns
     line-at-requires
-    one-requires
+    vector-requires
     plus-requires
     plus-requires-2
     loop-less

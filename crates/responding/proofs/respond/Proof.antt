@@ -7,15 +7,15 @@ use borrow.Author.Needs.{needs}
 use Rattle.responding.proofs.respond.Statement.{statement}
 use Rattle.responding.proofs.respond.Tie as tie
 
-said-requires : tie.Need-said-requires
-said-requires c κs = search needs
+say-response-requires : tie.Need-say-response-requires
+say-response-requires c κs = search needs
 
 same-length : tie.Need-same-length
 same-length c = search needs
 
 returns : tie.Need-returns
 unfolding responseChange
-returns c = let w = c .before .before .said .ensures in let a = c .before .before .before .before .before .before .before .args in (
+returns c = let w = c .before .before .say-response .ensures in let a = c .before .before .before .before .before .before .before .args in (
   ap (λ (o : Outcome). record {
     outcome = o;
     state = a .decision .state;
@@ -28,4 +28,4 @@ returns c = let w = c .before .before .said .ensures in let a = c .before .befor
 )
 
 pub respond-spec : {M : Type 1} → statement M
-respond-spec = tie.close (tie.spec said-requires same-length returns)
+respond-spec = tie.close (tie.spec say-response-requires same-length returns)

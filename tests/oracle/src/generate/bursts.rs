@@ -4,6 +4,7 @@ use crate::case::Case;
 use crate::generate::settings::{identifiers, net_size};
 use crate::limits::{frame_bytes, FEWEST_BASES, LONGEST_BURST, MOST_BASES, SHORTEST_BURST};
 use crate::message::{Kind, Message};
+use crate::refusal::{BACK_DISTANCE, BURST, KIND};
 use crate::rng::Rng;
 
 /// The frame behind some preamble, often none, at times as much as a burst takes.
@@ -76,9 +77,9 @@ pub fn every_length(rng: &mut Rng) -> Vec<Case> {
                 let short = length < frame.len();
                 let burst = if short { frame[frame.len() - length..].to_vec() } else { [rng.bytes(length - frame.len()), frame].concat() };
                 let expect = match () {
-                    _ if !(SHORTEST_BURST..=LONGEST_BURST).contains(&length) => 7,
-                    _ if Kind::of(kind).is_none() => 8,
-                    _ if short => 10,
+                    _ if !(SHORTEST_BURST..=LONGEST_BURST).contains(&length) => BURST,
+                    _ if Kind::of(kind).is_none() => KIND,
+                    _ if short => BACK_DISTANCE,
                     _ => 0,
                 };
                 cases.push(Case::Read { n, burst, expect: Some(expect) });

@@ -7,13 +7,14 @@ use crate::generate::records::{list_of, sound, Made};
 use crate::generate::settings::identifiers;
 use crate::limits::{LIST_ROOM, MOST_BASES, MOST_LINKS};
 use crate::record::RawBase;
+use crate::refusal::RECORD;
 use crate::rng::Rng;
 use crate::soundness::{broken_rules, Rule};
 
 /// A call on a record that breaks the rule alone: start, arrival or leader.
 pub fn call(rng: &mut Rng, rule: Rule) -> Case {
     let (made, record) = breaking(rng, rule);
-    let expect = Some(4);
+    let expect = Some(RECORD);
     match rng.below(4) {
         0 => Case::Start { record, out: output(rng), expect },
         1 => Case::Leader { record, expect },

@@ -19,8 +19,8 @@ loop-holds c = search needs
 plus-requires : tie.Need-plus-requires Inv-loop μ-loop
 plus-requires c κs = search needs
 
-identifier-requires : tie.Need-identifier-requires Inv-loop μ-loop
-identifier-requires c κs = search needs
+identifier-field-requires : tie.Need-identifier-field-requires Inv-loop μ-loop
+identifier-field-requires c κs = search needs
 
 mul-ids : tie.Need-mul-ids Inv-loop μ-loop
 mul-ids c = search needs
@@ -48,7 +48,7 @@ ids-from-spec =
     μ-loop
     loop-holds
     plus-requires
-    identifier-requires
+    identifier-field-requires
     mul-ids
     array-write-ids
     add-i

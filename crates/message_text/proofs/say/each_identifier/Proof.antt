@@ -17,14 +17,14 @@ loop-holds c = search needs
 returns : tie.Need-returns Inv-loop μ-loop
 returns c = search needs
 
-mul-identifier : tie.Need-mul-identifier Inv-loop μ-loop
-mul-identifier c = search needs
+mul-one-identifier : tie.Need-mul-one-identifier Inv-loop μ-loop
+mul-one-identifier c = search needs
 
-array-read-identifier : tie.Need-array-read-identifier Inv-loop μ-loop
-array-read-identifier c = search needs
+array-read-one-identifier : tie.Need-array-read-one-identifier Inv-loop μ-loop
+array-read-one-identifier c = search needs
 
-identifier-requires : tie.Need-identifier-requires Inv-loop μ-loop
-identifier-requires c κs = search needs
+one-identifier-requires : tie.Need-one-identifier-requires Inv-loop μ-loop
+one-identifier-requires c κs = search needs
 
 add-i : tie.Need-add-i Inv-loop μ-loop
 add-i c = search needs
@@ -46,9 +46,9 @@ each-identifier-spec =
     μ-loop
     loop-holds
     returns
-    mul-identifier
-    array-read-identifier
-    identifier-requires
+    mul-one-identifier
+    array-read-one-identifier
+    one-identifier-requires
     add-i
     loop-less
     loop-again

@@ -16,8 +16,8 @@ loop-holds c = search needs
 add-b : tie.Need-add-b Inv-loop μ-loop
 add-b c = search needs
 
-between-requires : tie.Need-between-requires Inv-loop μ-loop
-between-requires c κs = search needs
+waits-between-requires : tie.Need-waits-between-requires Inv-loop μ-loop
+waits-between-requires c κs = search needs
 
 loop-less : tie.Need-loop-less Inv-loop μ-loop
 loop-less c = search needs
@@ -31,4 +31,4 @@ returns c = search needs
 pub from-spec : {M : Type 1} → statement M
 from-spec =
     tie.close
-    (tie.spec Inv-loop μ-loop loop-holds add-b between-requires loop-less loop-again returns)
+    (tie.spec Inv-loop μ-loop loop-holds add-b waits-between-requires loop-less loop-again returns)

@@ -42,8 +42,8 @@ returns-2 c =
 mul-more : tie.Need-mul-more Inv-loop μ-loop
 mul-more c = search needs
 
-wide-requires : tie.Need-wide-requires Inv-loop μ-loop
-wide-requires c κs = search needs
+digit-value-requires : tie.Need-digit-value-requires Inv-loop μ-loop
+digit-value-requires c κs = search needs
 
 add-more : tie.Need-add-more Inv-loop μ-loop
 add-more c = search needs
@@ -54,9 +54,8 @@ returns-3 c =
     let loop-test = c .before .before .before .before .before .loop-test in
     let if1 = c .before .before .before .if1 in
     let if2 = c .before .before .if2 in
-    sym
-    (l .inv .1
-    ∙ digits-over _ _ _ _ (loop-test .taken) (digit (if1 .left) (if2 .left)) (omega (arith, c .before .wide .ensures)) (c .if3 .taken))
+    let value = c .before .digit-value .ensures in
+    sym (l .inv .1 ∙ digits-over _ _ _ _ (loop-test .taken) (digit (if1 .left) (if2 .left)) (omega (arith, value)) (c .if3 .taken))
 
 add-i : tie.Need-add-i Inv-loop μ-loop
 add-i c = search needs
@@ -69,10 +68,10 @@ loop-again c =
     let l = c .before .before .before .before .before .before .loop in
     let loop-test = c .before .before .before .before .before .loop-test in
     let if1 = c .before .before .before .if1 in
-    let if2 = c .before .before .if2 in (
+    let if2 = c .before .before .if2 in
+    let value = c .before .digit-value .ensures in (
       c .if3 .left,
-      l .inv .1
-          ∙ digits-more _ _ _ _ (loop-test .taken) (digit (if1 .left) (if2 .left)) (omega (arith, c .before .wide .ensures)) (c .if3 .left),
+      l .inv .1 ∙ digits-more _ _ _ _ (loop-test .taken) (digit (if1 .left) (if2 .left)) (omega (arith, value)) (c .if3 .left),
     )
 
 cast-t16 : tie.Need-cast-t16 Inv-loop μ-loop
@@ -94,7 +93,7 @@ digits-from-spec =
     cast-t13
     returns-2
     mul-more
-    wide-requires
+    digit-value-requires
     add-more
     returns-3
     add-i

@@ -26,8 +26,8 @@ returns-4 c = sym (number-zero _ _ (c .before .before .before .before .if1 .left
 add-digits-from : tie.Need-add-digits-from
 add-digits-from c = search needs
 
-wide-requires : tie.Need-wide-requires
-wide-requires c κs = search needs
+digit-value-requires : tie.Need-digit-value-requires
+digit-value-requires c κs = search needs
 
 digits-from-requires : tie.Need-digits-from-requires
 digits-from-requires c κs = search needs
@@ -38,7 +38,8 @@ returns-5 c =
     let if2 = c .before .before .before .before .if2 in
     let if3 = c .before .before .before .if3 in
     let if4 = c .before .before .if4 in
-    c .digits-from .ensures ∙ sym (number-digits _ _ _ (if1 .left) (digit (if2 .left) (if3 .left)) (if4 .left) (c .before .wide .ensures))
+    let value = c .before .digit-value .ensures in
+    c .digits-from .ensures ∙ sym (number-digits _ _ _ (if1 .left) (digit (if2 .left) (if3 .left)) (if4 .left) value)
 
 pub number-at-spec : {M : Type 1} → statement M
 number-at-spec =
@@ -51,6 +52,6 @@ number-at-spec =
     add-t8
     returns-4
     add-digits-from
-    wide-requires
+    digit-value-requires
     digits-from-requires
     returns-5)

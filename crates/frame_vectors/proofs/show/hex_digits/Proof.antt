@@ -2,8 +2,8 @@
 use borrow.Author.Needs.{needs}
 use Prim.Native.Nat.{_≤_, _-_}
 use lib.ListN.{length}
-use Rattle.frame_vectors.proofs.show.hex.Statement.{statement}
-use Rattle.frame_vectors.proofs.show.hex.Tie as tie
+use Rattle.frame_vectors.proofs.show.hex_digits.Statement.{statement}
+use Rattle.frame_vectors.proofs.show.hex_digits.Tie as tie
 
 abbrev Inv-loop : tie.InvT-loop
 Inv-loop s i₀ i = i ≤ length s
@@ -32,8 +32,8 @@ loop-again c = search needs
 returns : tie.Need-returns Inv-loop μ-loop
 returns c = search needs
 
-pub hex-spec : {M : Type 1} → statement M
-hex-spec =
+pub hex-digits-spec : {M : Type 1} → statement M
+hex-digits-spec =
     tie.close
     (tie.spec
     Inv-loop

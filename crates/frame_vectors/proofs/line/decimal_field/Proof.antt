@@ -2,8 +2,8 @@
 use borrow.Author.Needs.{needs}
 use Prim.Native.Nat.{_≤_, _-_}
 use lib.ListN.{length}
-use Rattle.frame_vectors.proofs.line.decimal.Statement.{statement}
-use Rattle.frame_vectors.proofs.line.decimal.Tie as tie
+use Rattle.frame_vectors.proofs.line.decimal_field.Statement.{statement}
+use Rattle.frame_vectors.proofs.line.decimal_field.Tie as tie
 
 abbrev Inv-loop : tie.InvT-loop
 Inv-loop digits value₀ i₀ value i = i ≤ length digits
@@ -32,8 +32,8 @@ loop-again c = search needs
 returns : tie.Need-returns Inv-loop μ-loop
 returns c = search needs
 
-pub decimal-spec : {M : Type 1} → statement M
-decimal-spec =
+pub decimal-field-spec : {M : Type 1} → statement M
+decimal-field-spec =
     tie.close
     (tie.spec
     Inv-loop

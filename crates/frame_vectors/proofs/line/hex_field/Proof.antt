@@ -4,8 +4,8 @@ use Prim.Native.Nat.{_≤_, _-_, _*_}
 use mathlib.Core.Path.{_≡_}
 use lib.ListN.{length}
 use Rattle.limits.specs.Limits.{longestBurst}
-use Rattle.frame_vectors.proofs.line.hex.Statement.{statement}
-use Rattle.frame_vectors.proofs.line.hex.Tie as tie
+use Rattle.frame_vectors.proofs.line.hex_field.Statement.{statement}
+use Rattle.frame_vectors.proofs.line.hex_field.Tie as tie
 
 abbrev Inv-loop : tie.InvT-loop
 Inv-loop digits bytes₀ i₀ bytes i = (i ≤ 2 * longestBurst) × (length bytes ≡ 2 * longestBurst)
@@ -34,8 +34,8 @@ loop-again c = search needs
 returns : tie.Need-returns Inv-loop μ-loop
 returns c = search needs
 
-pub hex-spec : {M : Type 1} → statement M
-hex-spec =
+pub hex-field-spec : {M : Type 1} → statement M
+hex-field-spec =
     tie.close
     (tie.spec
     Inv-loop

@@ -1,4 +1,4 @@
--- `responding::said` meets its contract: a message that is discarded broadcasts nothing.
+-- `responding::say_response` meets its contract: a message that is discarded broadcasts nothing.
 use Rattle.responding.specs.Responding.{responseFrames, responseOutcome}
 use Rattle.frame.specs.Encoding.{over}
 use Rattle.frame.specs.Encoding.Laws.{over-nothing}
@@ -8,8 +8,8 @@ use mathlib.Core.List.{List}
 use mathlib.Core.Path.{sym, ap, _∙_}
 use Prim.Native.Nat.{ℕ}
 use borrow.Author.Needs.{needs}
-use Rattle.responding.proofs.said.Statement.{statement}
-use Rattle.responding.proofs.said.Tie as tie
+use Rattle.responding.proofs.say_response.Statement.{statement}
+use Rattle.responding.proofs.say_response.Tie as tie
 
 returns : tie.Need-returns
 unfolding responseFrames responseOutcome
@@ -29,5 +29,5 @@ returns-2 c =
     let o = c .before .before .before .before .before .before .before .args .out .now in
     (w .0 ∙ sym (choose-yes _ _ t), w .1 ∙ sym (ap (λ (s : List ℕ). over s o) (choose-yes _ _ t)))
 
-pub said-spec : {M : Type 1} → statement M
-said-spec = tie.close (tie.spec returns put-broadcasts-requires same-length returns-2)
+pub say-response-spec : {M : Type 1} → statement M
+say-response-spec = tie.close (tie.spec returns put-broadcasts-requires same-length returns-2)
