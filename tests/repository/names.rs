@@ -1,6 +1,6 @@
-//! One name a thing: no definition, lemma, struct or enum of the crates has the name of another, public or not, and no public function or
-//! constant that of another. Fields and constructors do not count, nor what is private in an anonymous module. A public function that has a
-//! definition's name, in the code's way of writing it, cites that definition.
+//! One name a thing: no definition, lemma, struct, enum or function of the crates has the name of another, public or not, and no public
+//! constant that of another. Fields and constructors do not count, nor what is private in an anonymous module, nor a program's `main`. A
+//! public function that has a definition's name, in the code's way of writing it, cites that definition.
 
 use crate::antt::modules;
 use crate::believed::type_name;
@@ -31,7 +31,7 @@ pub fn check() -> Result<String, Vec<String>> {
             put(&mut things, type_name(line));
             put(&mut constants, constant_name(line));
             put(&mut functions, function_name(line));
-            let public = function_name(line).filter(|_| !line.contains("pub(crate)"));
+            let public = function_name(line).filter(|_| line.starts_with("pub fn ") || line.starts_with("pub extern "));
             let other = public.filter(|name| definitions.contains(&in_antt(name)) && !cites(&file.text, name, &in_antt(name)));
             wrong.extend(other.map(|name| format!("{name} at {} has the name of a definition that it does not cite", place())));
         }
@@ -49,10 +49,10 @@ pub fn check() -> Result<String, Vec<String>> {
     }
 }
 
-/// `pub fn NAME(`, `pub(crate) fn NAME<`, `pub extern "C" fn NAME(`
+/// `fn NAME(`, `pub(crate) fn NAME<`, `pub extern "C" fn NAME(`
 fn function_name(line: &str) -> Option<&str> {
     let (before, rest) = line.trim_start().split_once("fn ")?;
-    rest.split(['(', '<']).next().filter(|_| before.starts_with("pub"))
+    rest.split(['(', '<']).next().filter(|name| (before.is_empty() || before.starts_with("pub")) && *name != "main")
 }
 
 /// `pub const NAME: `
@@ -79,9 +79,10 @@ mod tests {
     use super::{cites, constant_name, function_name, in_antt};
 
     #[test]
-    fn public_functions_alone() {
-        let lines = ["pub fn one(", "    pub(crate) fn two<'a>(", "pub extern \"C\" fn three(n: u8)", "fn four(", "// pub fn five("];
-        assert_eq!(lines.map(function_name), [Some("one"), Some("two"), Some("three"), None, None]);
+    fn functions_and_not_the_words_of_comments() {
+        let lines = ["pub fn one(", "    pub(crate) fn two<'a>(", "pub extern \"C\" fn three(n: u8)", "fn four("];
+        assert_eq!(lines.map(function_name), [Some("one"), Some("two"), Some("three"), Some("four")]);
+        assert_eq!(["// pub fn five(", "fn main()"].map(function_name), [None, None]);
     }
 
     #[test]

@@ -155,7 +155,9 @@ impl Line {
                 "1" => "t is 1, and 1 is named already".to_string(),
                 t => format!("t is {t}, and {t} are named already"),
             },
-            NOT_BROADCAST => format!("a is `{a}`, and up to here that base has broadcast {}", counted(self.broadcasts(schedule, a), "message")),
+            NOT_BROADCAST => {
+                format!("a is `{a}`, and up to here that base has broadcast {}", counted(self.broadcasts(schedule, a), "message"))
+            }
             CARRIED_BEFORE => format!("line {} is that carry", self.first(|line| *line == self.words.join(" "))),
             _ => format!("the header has no line `faulty {} {}`", a.min(b), a.max(b)),
         }
