@@ -11,7 +11,7 @@ pub const FEWEST_BASES: usize = 2;
 pub const MOST_BASES: usize = 16;
 
 // Links that may be faulty in the largest net: `most_faulty` of it.
-pub const MOST_FAULTY: usize = (MOST_BASES - FEWEST_BASES) / 2;
+pub const MOST_FAULTY: usize = (MOST_BASES - 2) / 2;
 
 // Links of one base, and the room of a link's list.
 pub const MOST_LINKS: usize = MOST_BASES - 1;
@@ -57,14 +57,14 @@ pub fn net_refusal(n: usize) -> u8
     0
 }
 
-// The limit of t in a net of n bases.
+// The limit of t in a net of n bases, (n - 2) / 2 rounded down.
 pub fn most_faulty(n: usize) -> usize
     ensures { λ r. ⌜ r ≡ mostFaulty n ⌝ }
 {
-    if n < FEWEST_BASES {
+    if n < 2 {
         return 0;
     }
-    (n - FEWEST_BASES) / 2
+    (n - 2) / 2
 }
 
 // Numbers 1 and 2, 0 for none.
