@@ -44,7 +44,7 @@ fn hears(b: u8, n: u8, burst: &[u8]) {
 fn refusal(number: u8, burst: &[u8]) {
     with_numbers(b"#, ", [number as usize, 0, 0]);
     say_meaning(number as usize);
-    trailer::trailer_shown(number, burst);
+    trailer::say_values(number, burst);
     output::text(b"\n");
 }
 

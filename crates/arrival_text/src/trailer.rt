@@ -40,7 +40,7 @@ fn values(refusal: u8, kind: u8, count: u8, back: usize, length: usize) {
     }
 }
 
-pub(crate) fn trailer_shown(refusal: u8, burst: &[u8]) {
+pub(crate) fn say_values(refusal: u8, burst: &[u8]) {
     if burst.len() < TRAILER_BYTES {
         return;
     }

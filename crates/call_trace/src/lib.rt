@@ -91,10 +91,10 @@ fn started(b: u8, base: Base, made: usize) {
     let mut frames = [0u8; OUTPUT_ROOM];
     let change = start(base, &mut frames);
     let outcome = change.outcome;
-    start_led(b, base.n, made, outcome_numbers(outcome), &frames);
+    say_start(b, base.n, made, outcome_numbers(outcome), &frames);
 }
 
-fn start_led(b: u8, n: u8, made: usize, answer: CallAnswer, frames: &[u8]) {
+fn say_start(b: u8, n: u8, made: usize, answer: CallAnswer, frames: &[u8]) {
     say::base(b, b" starts\n");
     of_start(b, n, made, answer, frames);
 }
@@ -135,7 +135,7 @@ fn arrived(
 ) {
     let accepted = answer.outcome == ACCEPTED;
     if base.state == IDLE {
-        start_led(caller.b, base.n, caller.made, answer, frames);
+        say_start(caller.b, base.n, caller.made, answer, frames);
         say_heard(caller.b, base, arrival, accepted, burst);
         return answered_first(caller, after, answer, burst, frames);
     }
