@@ -1,14 +1,17 @@
-/* A roster agreed by bases over faulty links: one base's engine, its frames, and the replay of a whole net.
+/* A roster agreed by bases over faulty links: one base's engine, its frames, the replay of a whole net, and the sets of faulty links that a
+ * small net can have.
  *
- * docs/HOW-A-BASE-DECIDES.md lists what an integrator has to do, step by step; docs/RULES.md has the bytes of a frame.
+ * docs/HOW-A-BASE-DECIDES.md lists what an integrator has to do, step by step; docs/RULES.md has the bytes of a frame and the lines of a
+ * schedule; docs/FAULTY-SETS.md shows how a net is tried under each set of faulty links.
  *
- * Linking. A base's calls are in libroster_c.a (`rt staticlib roster_c` writes it to target/staticlib/); roster_replay alone is in
- * libreplay.a (`rt staticlib replay`), as a base in the field replays nothing. Neither needs the other, and one program may link both.
+ * Linking. A base's calls are in libroster_c.a (`rt staticlib roster_c` writes it to target/staticlib/). What a base in the field does not
+ * need stands apart: roster_replay is in libreplay.a (`rt staticlib replay`), the calls on sets of faulty links, roster_faulty_count,
+ * roster_faulty_set and roster_faulty_text, in libfaulty_c.a (`rt staticlib faulty_c`). None needs another, and one program may link all.
  * They are for x86-64 with the System V calling convention: the stack is aligned to 16 bytes at a call, SSE2 is on, and the 128 bytes
- * below the stack pointer are in use (an interrupt needs a stack of its own); the kit builds for no other machine. They take memcpy and
- * memset from the platform, libreplay.a also memmove, and nothing else: no other library, no heap, no state of their own. Different
- * records may be used by different threads at the same time. Where the compiler lays the structs out otherwise (-fpack-struct), this header
- * does not compile.
+ * below the stack pointer are in use (an interrupt needs a stack of its own); the kit builds for no other machine. They take memcpy
+ * from the platform, libroster_c.a also memset, libreplay.a also memset and memmove, and nothing else: no other library, no heap, no state
+ * of their own. Different records may be used by different threads at the same time. Where the compiler lays the structs out otherwise
+ * (-fpack-struct), this header does not compile.
  *
  * What is lent. A call reads and writes what it is lent and nothing else. A record's pointer is never NULL; any other has to be valid for
  * the length given with it, and may be NULL where that length is 0. Records and lists of identifiers are aligned as C aligns them; bytes
@@ -58,7 +61,8 @@
 extern "C" {
 #endif
 
-/* Counts up with every change of a record, a call or a number. roster_version() answers that of the library. */
+/* Counts up where a record, what a call does or what a number means changes; a call or a number that is added leaves it. roster_version()
+ * answers that of libroster_c.a. */
 #define ROSTER_VERSION 1
 
 /* Sizes. Most follow from the most bases of a net. */
@@ -77,6 +81,13 @@ extern "C" {
 #define ROSTER_LINE_ROOM (37 + 11 * ROSTER_MOST_BASES)                  /* bytes for any line of a report */
 #define ROSTER_REPORT_ROOM ((ROSTER_MOST_BASES + 1) * ROSTER_LINE_ROOM) /* bytes to lend to roster_replay */
 
+/* The largest net whose sets of faulty links are listed. */
+#define ROSTER_SMALL_BASES 6
+#define ROSTER_SMALL_FAULTY ROSTER_MOST_FAULTY(ROSTER_SMALL_BASES)                                     /* links of a set */
+#define ROSTER_SMALL_PAIRS (ROSTER_SMALL_BASES * (ROSTER_SMALL_BASES - 1) / 2)                         /* links of the net */
+#define ROSTER_SMALL_SETS (1 + ROSTER_SMALL_PAIRS + ROSTER_SMALL_PAIRS * (ROSTER_SMALL_PAIRS - 1) / 2) /* its sets */
+#define ROSTER_FAULTY_TEXT_ROOM (ROSTER_SMALL_SETS * (25 + 15 * ROSTER_SMALL_FAULTY)) /* bytes to lend to roster_faulty_text */
+
 /* The most stack that a call takes, in bytes, with what its answer takes in the caller and without what memcpy, memset and memmove take,
  * or a dynamic linker at their first call. tests/figures measures it and holds it to this. */
 #define ROSTER_STACK_IDLE 5000
@@ -87,11 +98,15 @@ extern "C" {
 #define ROSTER_STACK_WRITE 1000
 #define ROSTER_STACK_REPLAY 190000
 #define ROSTER_STACK_VERSION 200
+#define ROSTER_STACK_FAULTY_COUNT 200
+#define ROSTER_STACK_FAULTY_SET 500
+#define ROSTER_STACK_FAULTY_TEXT 1000
 
 enum roster_state { ROSTER_IDLE, ROSTER_RUNNING, ROSTER_PRIME, ROSTER_SECONDARY };
 enum roster_kind { ROSTER_ANNOUNCE = 1, ROSTER_VERIFY, ROSTER_CORRECT_FINAL, ROSTER_VERIFY_FINAL };
 
-/* Why a call is turned down, in checking order. 13 to 18 stand in the report of a schedule alone. */
+/* Why a call is turned down, in checking order: 1 to 12 are of a base's calls; 1, 2, 19 and 20 of those on sets of faulty links. 13 to 18
+ * are of a schedule's lines; the form, 13, is tested before everything else about a line. */
 enum roster_refusal {
     ROSTER_REFUSAL_BASES = 1,            /* n is not 2 to 16 */
     ROSTER_REFUSAL_FAULTY_LIMIT = 2,     /* t is above its limit */
@@ -110,7 +125,9 @@ enum roster_refusal {
     ROSTER_REFUSAL_FAULTY_LINKS = 15,    /* more than t links are named faulty */
     ROSTER_REFUSAL_NOT_BROADCAST = 16,   /* a carry names a message not yet broadcast */
     ROSTER_REFUSAL_CARRIED_BEFORE = 17,  /* a carry repeats one already made in that direction on a good link */
-    ROSTER_REFUSAL_FORGED_ON_GOOD = 18   /* a forgery is put on a good link */
+    ROSTER_REFUSAL_FORGED_ON_GOOD = 18,  /* a forgery is put on a good link */
+    ROSTER_REFUSAL_LARGE_NET = 19,       /* the net has more than 6 bases */
+    ROSTER_REFUSAL_SET_NUMBER = 20       /* the number is past the last set */
 };
 
 /* What is held of one link. Places that are not in use are zero. */
@@ -172,6 +189,25 @@ typedef struct roster_put {
     size_t length;   /* of the frame; zero where the call was turned down */
 } roster_put;
 
+/* How many sets of faulty links there are. */
+typedef struct roster_count {
+    uint8_t refusal; /* or zero */
+    size_t count;    /* zero where the call was turned down */
+} roster_count;
+
+/* A link by the numbers of its two bases, as `faulty a b` names it: a is the lower. */
+typedef struct roster_pair {
+    uint8_t lower;
+    uint8_t higher;
+} roster_pair;
+
+/* A set of faulty links, in the order of their pairs. Where the call was turned down all else is zero. */
+typedef struct roster_set {
+    uint8_t refusal; /* or zero */
+    uint8_t count;
+    roster_pair pairs[ROSTER_SMALL_FAULTY]; /* the count links, zeros behind */
+} roster_set;
+
 /* The library's layout: an array of no valid size where the compiler has another. */
 typedef char roster_layout_link[sizeof(roster_link) == 4 + 4 * ROSTER_LIST_ROOM + 4 * ROSTER_MOST_BASES + 4 ? 1 : -1];
 typedef char roster_layout_base[sizeof(roster_base) == 8 + 4 * ROSTER_MOST_BASES + ROSTER_MOST_LINKS * sizeof(roster_link) ? 1 : -1];
@@ -180,6 +216,8 @@ typedef char roster_layout_answer[sizeof(roster_answer) == 8 + 3 * sizeof(size_t
 typedef char roster_layout_named[sizeof(roster_named) == 8 ? 1 : -1];
 typedef char roster_layout_taken[sizeof(roster_taken) == 8 + 2 * sizeof(size_t) + 4 * ROSTER_MOST_BASES ? 1 : -1];
 typedef char roster_layout_put[sizeof(roster_put) == 8 + sizeof(size_t) ? 1 : -1];
+typedef char roster_layout_count[sizeof(roster_count) == 8 + sizeof(size_t) ? 1 : -1];
+typedef char roster_layout_set[sizeof(roster_set) == 2 + 2 * ROSTER_SMALL_FAULTY ? 1 : -1];
 
 /* An answer that is not looked at loses the frames or the refusal. */
 #if defined(__GNUC__)
@@ -224,7 +262,24 @@ roster_put roster_write(size_t n, uint8_t kind, const uint32_t *ids, size_t id_c
 ROSTER_LOOK_AT
 size_t roster_replay(const uint8_t *schedule, size_t schedule_length, uint8_t *out, size_t out_length);
 
-/* The ROSTER_VERSION of libroster_c.a. */
+/* In libfaulty_c.a, with the next two. How many sets of at most t links a net of n bases has, of 2 to ROSTER_SMALL_BASES bases: each way
+ * in which its links can be faulty. Turned down by 1, 2 and 19. */
+ROSTER_LOOK_AT
+roster_count roster_faulty_count(size_t n, size_t t);
+
+/* The set of a number, from 0, the empty set, to one less than the count. Sets go by size, then by their first differing pair; pairs by
+ * the lower base, then by the higher. Each set has one number. Turned down by 1, 2, 19 and 20. */
+ROSTER_LOOK_AT
+roster_set roster_faulty_set(size_t n, size_t t, size_t number);
+
+/* All sets as hillfaults prints them, of the net that a schedule's first line names (`net n t`); the length of the lines. What stands
+ * behind that line is not looked at. The lines of a set go into a schedule as they stand, behind its `id` lines. Where the first line is
+ * refused, by 13, 1, 2 or 19, the text is "refused N line 1". An output with less than ROSTER_FAULTY_TEXT_ROOM bytes is left alone, and the
+ * length is 0. Touches the lines' bytes at the front of the output. */
+ROSTER_LOOK_AT
+size_t roster_faulty_text(const uint8_t *schedule, size_t schedule_length, uint8_t *out, size_t out_length);
+
+/* In libroster_c.a: the ROSTER_VERSION that it was built with. */
 ROSTER_LOOK_AT
 uint32_t roster_version(void);
 

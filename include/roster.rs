@@ -1,7 +1,8 @@
-//! libroster_c.a and libreplay.a for Rust: the sizes, numbers, records and calls of roster.h, and each call with slices. Bring it in as a
-//! module (`#[path = "include/roster.rs"] mod roster;`, from where that file lies) and link the archive
-//! (`rustc --edition 2021 base.rs -L target/staticlib -l static=roster_c`; who calls [`replay`] adds `-l static=replay`). With cargo,
-//! build.rs prints `cargo:rustc-link-search=native=FOLDER` and `cargo:rustc-link-lib=static=roster_c`.
+//! libroster_c.a, libreplay.a and libfaulty_c.a for Rust: the sizes, numbers, records and calls of roster.h, and each call with slices.
+//! Bring it in as a module (`#[path = "include/roster.rs"] mod roster;`, from where that file lies) and link the archive
+//! (`rustc --edition 2021 base.rs -L target/staticlib -l static=roster_c`; who calls [`replay`] adds `-l static=replay`, and who calls
+//! [`faulty_set`] or its neighbours `-l static=faulty_c`). With cargo, build.rs prints `cargo:rustc-link-search=native=FOLDER` and
+//! `cargo:rustc-link-lib=static=roster_c`, and a line for each other archive. A program that is linked with `-C link-dead-code` needs all.
 //!
 //! What a call does, touches and is turned down by stands in roster.h. tests/layout holds the two files against each other. It needs
 //! `core` alone.
@@ -22,6 +23,13 @@ pub const LONGEST_SCHEDULE: usize = 65536;
 pub const LINE_ROOM: usize = 37 + 11 * MOST_BASES;
 pub const REPORT_ROOM: usize = (MOST_BASES + 1) * LINE_ROOM;
 
+/// The largest net whose sets of faulty links are listed.
+pub const SMALL_BASES: usize = 6;
+pub const SMALL_FAULTY: usize = most_faulty(SMALL_BASES);
+pub const SMALL_PAIRS: usize = SMALL_BASES * (SMALL_BASES - 1) / 2;
+pub const SMALL_SETS: usize = 1 + SMALL_PAIRS + SMALL_PAIRS * (SMALL_PAIRS - 1) / 2;
+pub const FAULTY_TEXT_ROOM: usize = SMALL_SETS * (25 + 15 * SMALL_FAULTY);
+
 /// The most stack that a call takes, in bytes, with what its answer takes in the caller and without what memcpy, memset and memmove
 /// take, or a dynamic linker at their first call.
 pub const STACK_IDLE: usize = 5000;
@@ -32,6 +40,9 @@ pub const STACK_READ: usize = 1000;
 pub const STACK_WRITE: usize = 1000;
 pub const STACK_REPLAY: usize = 190000;
 pub const STACK_VERSION: usize = 200;
+pub const STACK_FAULTY_COUNT: usize = 200;
+pub const STACK_FAULTY_SET: usize = 500;
+pub const STACK_FAULTY_TEXT: usize = 1000;
 
 /// The most that t may be in a net of n, 2 or more.
 pub const fn most_faulty(n: usize) -> usize {
@@ -89,6 +100,8 @@ pub const REFUSAL_FAULTY_LINKS: u8 = 15;
 pub const REFUSAL_NOT_BROADCAST: u8 = 16;
 pub const REFUSAL_CARRIED_BEFORE: u8 = 17;
 pub const REFUSAL_FORGED_ON_GOOD: u8 = 18;
+pub const REFUSAL_LARGE_NET: u8 = 19;
+pub const REFUSAL_SET_NUMBER: u8 = 20;
 
 /// What is held of one link. Places that are not in use are zero.
 #[repr(C)]
@@ -181,6 +194,31 @@ pub struct Put {
     pub length: usize,
 }
 
+/// How many sets of faulty links there are; zero where the call was turned down.
+#[repr(C)]
+#[derive(Clone, Copy, Debug, PartialEq, Eq)]
+pub struct Count {
+    pub refusal: u8,
+    pub count: usize,
+}
+
+/// A link by the numbers of its two bases, the lower first.
+#[repr(C)]
+#[derive(Clone, Copy, Debug, PartialEq, Eq)]
+pub struct Pair {
+    pub lower: u8,
+    pub higher: u8,
+}
+
+/// A set of faulty links, in the order of their pairs; zeros behind the `count` links, and all zero where the call was turned down.
+#[repr(C)]
+#[derive(Clone, Copy, Debug, PartialEq, Eq)]
+pub struct Set {
+    pub refusal: u8,
+    pub count: u8,
+    pub pairs: [Pair; SMALL_FAULTY],
+}
+
 unsafe extern "C" {
     fn roster_idle(n: usize, t: usize, own: u32) -> Made;
     fn roster_start(base: *mut Base, out: *mut u8, out_length: usize) -> Answer;
@@ -189,6 +227,9 @@ unsafe extern "C" {
     fn roster_read(n: usize, burst: *const u8, burst_length: usize) -> Taken;
     fn roster_write(n: usize, kind: u8, ids: *const u32, id_count: usize, out: *mut u8, out_length: usize) -> Put;
     fn roster_replay(schedule: *const u8, schedule_length: usize, out: *mut u8, out_length: usize) -> usize;
+    fn roster_faulty_count(n: usize, t: usize) -> Count;
+    fn roster_faulty_set(n: usize, t: usize, number: usize) -> Set;
+    fn roster_faulty_text(schedule: *const u8, schedule_length: usize, out: *mut u8, out_length: usize) -> usize;
     fn roster_version() -> u32;
 }
 
@@ -238,11 +279,32 @@ pub fn write(n: usize, kind: u8, ids: &[u32], out: &mut [u8]) -> Put {
     unsafe { roster_write(n, kind, ids.as_ptr(), ids.len(), out.as_mut_ptr(), out.len()) }
 }
 
-/// The report of a schedule, as hillreplay prints it; its length. In libreplay.a, as every other call is in libroster_c.a.
+/// The report of a schedule, as hillreplay prints it; its length. In libreplay.a.
 #[inline]
 #[must_use]
 pub fn replay(schedule: &[u8], out: &mut [u8]) -> usize {
     unsafe { roster_replay(schedule.as_ptr(), schedule.len(), out.as_mut_ptr(), out.len()) }
+}
+
+/// How many sets of at most t faulty links a small net of n bases has. In libfaulty_c.a, with the next two.
+#[inline]
+#[must_use]
+pub fn faulty_count(n: usize, t: usize) -> Count {
+    unsafe { roster_faulty_count(n, t) }
+}
+
+/// The set of a number, from 0 on.
+#[inline]
+#[must_use]
+pub fn faulty_set(n: usize, t: usize, number: usize) -> Set {
+    unsafe { roster_faulty_set(n, t, number) }
+}
+
+/// All sets of the net that a schedule's first line names, as hillfaults prints them; the length of the lines.
+#[inline]
+#[must_use]
+pub fn faulty_text(schedule: &[u8], out: &mut [u8]) -> usize {
+    unsafe { roster_faulty_text(schedule.as_ptr(), schedule.len(), out.as_mut_ptr(), out.len()) }
 }
 
 /// The `VERSION` of libroster_c.a.

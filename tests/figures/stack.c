@@ -17,7 +17,8 @@ enum { STACK = 1 << 21, PAINT = 0xC7 };
 /* What the call that is measured is lent. */
 static roster_base base;
 static uint8_t out[ROSTER_OUTPUT_ROOM], burst[ROSTER_LONGEST_BURST + 1], schedule[ROSTER_LONGEST_SCHEDULE + 1], report[ROSTER_REPORT_ROOM];
-static size_t n, link, burst_length, room, schedule_length;
+static uint8_t lines[ROSTER_FAULTY_TEXT_ROOM];
+static size_t n, t, link, burst_length, room, schedule_length, number;
 static uint8_t kind;
 static uint32_t list[N], count;
 
@@ -30,6 +31,9 @@ static void reads(void) { roster_read(n, burst, burst_length); }
 static void writes(void) { burst_length = roster_write(n, kind, list, count, burst, sizeof burst).length; }
 static void versions(void) { roster_version(); }
 static void replays(void) { roster_replay(schedule, schedule_length, report, sizeof report); }
+static void counts(void) { roster_faulty_count(n, t); }
+static void finds(void) { roster_faulty_set(n, t, number); }
+static void lists(void) { roster_faulty_text(schedule, schedule_length, lines, sizeof lines); }
 
 /* A call, the most that it took, with what, and what it may take. */
 struct row {
@@ -44,6 +48,9 @@ static struct row rows[] = {
     {"roster_arrive", arrives, 0, ROSTER_STACK_ARRIVE, ""}, {"roster_leader", leads, 0, ROSTER_STACK_LEADER, ""},
     {"roster_read", reads, 0, ROSTER_STACK_READ, ""},       {"roster_write", writes, 0, ROSTER_STACK_WRITE, ""},
     {"roster_replay", replays, 0, ROSTER_STACK_REPLAY, ""}, {"roster_version", versions, 0, ROSTER_STACK_VERSION, ""},
+    {"roster_faulty_count", counts, 0, ROSTER_STACK_FAULTY_COUNT, ""},
+    {"roster_faulty_set", finds, 0, ROSTER_STACK_FAULTY_SET, ""},
+    {"roster_faulty_text", lists, 0, ROSTER_STACK_FAULTY_TEXT, ""},
 };
 
 static size_t used(void (*call)(void))
@@ -193,6 +200,19 @@ static void replay(const char *path)
     measure(replays, path);
 }
 
+/* Every net and number in range and next to it, and the first line of every net. */
+static void faulty_sets(void)
+{
+    for (n = 0; n <= ROSTER_SMALL_BASES + 1; n++)
+        for (t = 0; t <= ROSTER_SMALL_FAULTY + 1; t++) {
+            measure(counts, "a net");
+            for (number = 0; number <= ROSTER_SMALL_SETS; number++)
+                measure(finds, "a number");
+            schedule_length = (size_t)snprintf((char *)schedule, sizeof schedule, "net %zu %zu\n", n, t);
+            measure(lists, "the first line of a net");
+        }
+}
+
 int main(int argc, char **argv)
 {
     int failures = 0;
@@ -201,12 +221,13 @@ int main(int argc, char **argv)
     ends_secondary();
     refusals();
     measure(versions, "a call");
+    faulty_sets();
     for (int i = 1; i < argc; i++)
         replay(argv[i]);
     for (size_t i = 0; i < sizeof rows / sizeof rows[0]; i++) {
         int over = rows[i].most > rows[i].limit;
         failures += over;
-        printf("%-14s %6zu bytes of stack, at most %6zu%s; most with: %s\n", rows[i].name, rows[i].most, rows[i].limit,
+        printf("%-19s %6zu bytes of stack, at most %6zu%s; most with: %s\n", rows[i].name, rows[i].most, rows[i].limit,
                over ? ", EXCEEDED" : "", rows[i].worst);
     }
     return failures != 0;

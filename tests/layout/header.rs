@@ -43,6 +43,8 @@ fn main() {
     numbers!(VERSION FEWEST_BASES MOST_BASES MOST_LINKS LIST_ROOM LONGEST_FRAME);
     numbers!(OUTPUT_ROOM SHORTEST_BURST LONGEST_BURST LONGEST_SCHEDULE LINE_ROOM REPORT_ROOM);
     numbers!(STACK_IDLE STACK_START STACK_ARRIVE STACK_LEADER STACK_READ STACK_WRITE STACK_REPLAY STACK_VERSION);
+    numbers!(STACK_FAULTY_COUNT STACK_FAULTY_SET STACK_FAULTY_TEXT);
+    numbers!(SMALL_BASES SMALL_FAULTY SMALL_PAIRS SMALL_SETS FAULTY_TEXT_ROOM);
     println!("MOST_FAULTY {}, MOST_BROADCASTS {}", most_faulty(MOST_BASES), most_broadcasts(MOST_BASES));
     numbers!(IDLE RUNNING PRIME SECONDARY);
     numbers!(ANNOUNCE VERIFY CORRECT_FINAL VERIFY_FINAL);
@@ -52,6 +54,7 @@ fn main() {
     numbers!(REFUSAL_OUTPUT REFUSAL_BURST REFUSAL_KIND REFUSAL_COUNT REFUSAL_BACK_DISTANCE);
     numbers!(REFUSAL_ZERO_IDENTIFIER REFUSAL_NOT_ASCENDING REFUSAL_FORM REFUSAL_SAME_IDENTIFIER);
     numbers!(REFUSAL_FAULTY_LINKS REFUSAL_NOT_BROADCAST REFUSAL_CARRIED_BEFORE REFUSAL_FORGED_ON_GOOD);
+    numbers!(REFUSAL_LARGE_NET REFUSAL_SET_NUMBER);
     stored();
     record!(Link link: announce verifies list verify_count held);
     record!(Base base: n t state sent own final_list links);
@@ -60,4 +63,7 @@ fn main() {
     record!(Named named: outcome refusal leader);
     record!(Taken taken: refusal kind count start ids);
     record!(Put put: refusal length);
+    record!(Count count: refusal count);
+    record!(Pair pair: lower higher);
+    record!(Set set: refusal count pairs);
 }

@@ -135,6 +135,34 @@ static void answers(void)
     check("refused named.refusal", roster_leader(&zero).refusal, ROSTER_REFUSAL_BASES);
 }
 
+/* The sets of faulty links: the last of the largest small net, and what is turned down. */
+static void faulty_sets(void)
+{
+    static uint8_t before[64], lines[ROSTER_FAULTY_TEXT_ROOM + 64];
+    const char *net = "net 4 1\nid 1 500\n", *first = "set 0\nset 1\nfaulty 1 2\n";
+    roster_count sets = roster_faulty_count(ROSTER_SMALL_BASES, ROSTER_SMALL_FAULTY);
+    check("count.refusal", sets.refusal, 0);
+    check("count.count", sets.count, ROSTER_SMALL_SETS);
+    roster_set set = roster_faulty_set(ROSTER_SMALL_BASES, ROSTER_SMALL_FAULTY, sets.count - 1);
+    check("set.refusal", set.refusal, 0);
+    check("set.count", set.count, ROSTER_SMALL_FAULTY);
+    check("set.pairs[0].lower", set.pairs[0].lower, ROSTER_SMALL_BASES - 2);
+    check("set.pairs[0].higher", set.pairs[0].higher, ROSTER_SMALL_BASES);
+    check("set.pairs[1].lower", set.pairs[1].lower, ROSTER_SMALL_BASES - 1);
+    check("set.pairs[1].higher", set.pairs[1].higher, ROSTER_SMALL_BASES);
+    set = roster_faulty_set(ROSTER_SMALL_BASES, ROSTER_SMALL_FAULTY, sets.count);
+    check("refused set.refusal", set.refusal, ROSTER_REFUSAL_SET_NUMBER);
+    check("refused set", memcmp(&set.count, before, sizeof set - 1) != 0, 0);
+    sets = roster_faulty_count(ROSTER_SMALL_BASES + 1, 0);
+    check("refused count.refusal", sets.refusal, ROSTER_REFUSAL_LARGE_NET);
+    check("refused count.count", sets.count, 0);
+    size_t length = roster_faulty_text((const uint8_t *)net, strlen(net), lines, ROSTER_FAULTY_TEXT_ROOM);
+    check("lines", length, 7 * strlen("set 0\n") + 6 * strlen("faulty 1 2\n"));
+    check("first lines", memcmp(lines, first, strlen(first)) != 0, 0);
+    for (size_t i = length; i < sizeof lines; i++)
+        check("byte past the lines", lines[i], 0);
+}
+
 /* NULL may stand where the length is 0. */
 static void nothing_lent(void)
 {
@@ -147,6 +175,7 @@ static void nothing_lent(void)
     check("no output written", roster_write(N, ROSTER_VERIFY, &base.own, 1, NULL, 0).refusal, ROSTER_REFUSAL_OUTPUT);
     check("no report's room", roster_replay(NULL, 0, NULL, 0), 0);
     check("no schedule", roster_replay(NULL, 0, report, sizeof report), strlen("refused 13 line 1\n"));
+    check("no lines' room", roster_faulty_text(NULL, 0, NULL, 0), 0);
 }
 
 /* Every byte of a record that is lent belongs to a field: the fields' sizes add up to the record's. */
@@ -183,6 +212,7 @@ int main(void)
     read_back();
     record();
     answers();
+    faulty_sets();
     nothing_lent();
     check("version", roster_version(), ROSTER_VERSION);
     if (failures == 0)

@@ -13,7 +13,7 @@ fn main() {
     }
     let here = PathBuf::from(env::var("CARGO_MANIFEST_DIR").expect("cargo sets CARGO_MANIFEST_DIR"));
     let folder = env::var("ROSTER_LIB_DIR").map_or_else(|_| here.join("../../target/staticlib"), PathBuf::from);
-    let names = env::var("ROSTER_LIB").unwrap_or_else(|_| "roster_c replay".to_string());
+    let names = env::var("ROSTER_LIB").unwrap_or_else(|_| "roster_c replay faulty_c".to_string());
     println!("cargo:rustc-link-search=native={}", folder.display());
     for name in names.split_whitespace() {
         println!("cargo:rerun-if-changed={}", folder.join(format!("lib{name}.a")).display());

@@ -1,5 +1,5 @@
-//! What a reader has to believe: the definitions that the statement of agreement and the statement about the replay reach, by the names in
-//! their texts. The two lists in docs/AGREEMENT.md have exactly these.
+//! What a reader has to believe: the definitions that the statement of agreement, the statement about the replay and the one about the sets
+//! of faulty links reach, by the names in their texts. The three lists in docs/AGREEMENT.md have exactly these.
 
 use crate::antt::{import_of, modules, names_in, Import, Module};
 use crate::files::{below, below_crates, text_of};
@@ -40,11 +40,13 @@ pub fn check() -> Result<String, Vec<String>> {
     let agreement = world.reached(agreement_roots());
     let mut replay = world.reached(world.replay_roots().map_err(|error| vec![error])?);
     replay.retain(|reached| !agreement.contains(reached));
-    let [first, second] = listed(&page);
-    let mut wrong = differences("the agreement's statement", &agreement, &first);
-    wrong.extend(differences("the replay's statement", &replay, &second));
+    let mut sets = world.reached(world.set_roots().map_err(|error| vec![error])?);
+    sets.retain(|reached| !agreement.contains(reached) && !replay.contains(reached));
+    let statements = [("the agreement's statement", agreement), ("the replay's besides", replay), ("the faulty sets' besides", sets)];
+    let compared = statements.iter().zip(listed(&page));
+    let wrong: Vec<String> = compared.flat_map(|((of, reached), listed)| differences(of, reached, &listed)).collect();
     match wrong.is_empty() {
-        true => Ok(format!("{}; {}", world.told("the agreement's statement", &agreement), world.told("the replay's besides", &replay))),
+        true => Ok(statements.map(|(of, reached)| world.told(of, &reached)).join("; ")),
         false => Err(wrong),
     }
 }
@@ -72,12 +74,26 @@ impl World {
             .flat_map(|module| module.items.iter().filter(|item| item.defines).map(|item| place(&module.path, &item.name)))
             .collect();
         roots.push(place("schedule/specs/Meaning/Effects.antt", "Effects"));
-        let code = text_of("crates/replay/src/lib.rt")?;
-        let imports: Vec<Import> = code.lines().filter_map(|line| import_of(line.strip_prefix("ghost ")?.trim_end_matches(';'))).collect();
-        let found = code.split_once("fn roster_replay(").and_then(|(_, rest)| rest.split_once("\n{"));
-        let (contract, _) = found.ok_or("replay::roster_replay is not found")?;
-        roots.extend(names_in(contract).filter_map(|name| self.imported(&imports, name)));
+        roots.extend(self.contract("replay", "roster_replay")?);
         Ok(roots)
+    }
+
+    /// What link_sets/specs/Statement.antt states, and the definitions in the contracts of the calls on the sets of faulty links.
+    fn set_roots(&self) -> Result<Vec<Place>, String> {
+        let mut roots = vec![place("link_sets/specs/Statement.antt", "EachOnce")];
+        for call in ["roster_faulty_count", "roster_faulty_set", "roster_faulty_text"] {
+            roots.extend(self.contract("faulty_c", call)?);
+        }
+        Ok(roots)
+    }
+
+    /// The definitions that the contract of an exported call names.
+    fn contract(&self, krate: &str, call: &str) -> Result<Vec<Place>, String> {
+        let code = text_of(&format!("crates/{krate}/src/lib.rt"))?;
+        let imports: Vec<Import> = code.lines().filter_map(|line| import_of(line.strip_prefix("ghost ")?.trim_end_matches(';'))).collect();
+        let found = code.split_once(&format!("fn {call}(")).and_then(|(_, rest)| rest.split_once("\n{"));
+        let (contract, _) = found.ok_or(format!("{krate}::{call} is not found"))?;
+        Ok(names_in(contract).filter_map(|name| self.imported(&imports, name)).collect())
     }
 
     fn reached(&self, roots: Vec<Place>) -> BTreeSet<Place> {
@@ -181,16 +197,17 @@ pub fn type_name(line: &str) -> Option<&str> {
     rest.split(|c: char| !c.is_alphanumeric() && c != '_').next()
 }
 
-/// The page's two lists: the numbered points under the section's heading, and those under the heading about the replay behind it. A path in
-/// backticks says where the names in backticks behind it are; one without its crate stands in the specs/ of the path before.
-fn listed(page: &str) -> [BTreeSet<Place>; 2] {
-    let mut lists = [BTreeSet::new(), BTreeSet::new()];
+/// The page's three lists: the numbered points under the section's heading, and those under the headings about the replay and about the
+/// sets of faulty links behind it. A path in backticks says where the names in backticks behind it are; one without its crate stands in the
+/// specs/ of the path before.
+fn listed(page: &str) -> [BTreeSet<Place>; 3] {
+    let mut lists = [BTreeSet::new(), BTreeSet::new(), BTreeSet::new()];
     let (mut list, mut inside, mut item) = (0, false, false);
     let mut file = String::new();
     for line in page.lines() {
         if line.starts_with('#') {
-            list = usize::from(line.contains("replay"));
-            inside = line == SECTION || (inside && (list == 1 || line.starts_with("###")));
+            list = ["replay", "faulty links"].iter().position(|of| line.contains(of)).map_or(0, |place| place + 1);
+            inside = line == SECTION || (inside && (list > 0 || line.starts_with("###")));
         }
         item = starts_item(line) || (item && line.starts_with("   "));
         if !inside || !item {

@@ -13,7 +13,8 @@ type Edit = (String, String);
 
 /// What the prover says of a proof that no longer fits the code, where the edit changed the code's shape, and of a name that is nowhere.
 /// Such an edit shows nothing.
-const MISFITS: [&str; 5] = ["has no field", "has no `Need-", "is not in scope", "is applied to an argument", "was not determined"];
+const MISFITS: [&str; 6] =
+    ["has no field", "has no `Need-", "is not in scope", "is applied to an argument", "give that argument by adding", "was not determined"];
 
 /// What a step of a proof says that finds nothing to rewrite in the goal. Where every step that is refused says so, no goal was left open,
 /// and the edit shows nothing either.
@@ -111,6 +112,7 @@ mod tests {
             "`add-t12`: `tie.Need-add-t12`: module `Tie` has no `Need-add-t12` that can be named from here",
             "module `proofs.happen` has no `Tie` that can be named from here",
             "`ensures-1`: `minn` is not in scope; did you mean `min`?",
+            "`base-whole`: give that argument by adding `{u = …}` after the arguments that come before it in `ap₂`'s type",
             "this line starts at column 1, but the `(` opened at 49:36 is still open",
         ] {
             assert_eq!(misfit(&format!("{fact}specs/Lists.antt:49:36: error: {what}\n")), Some(what));

@@ -8,6 +8,9 @@ use std::collections::BTreeMap;
 
 const PAGE: &str = "docs/RULES.md";
 
+/// A schedule's lines are refused by the numbers up to this one; the trace says no other.
+const OF_A_SCHEDULE: usize = 18;
+
 /// A number, and how some file names it and says it.
 struct Said {
     number: Option<usize>,
@@ -24,7 +27,7 @@ pub fn check() -> Result<String, Vec<String>> {
     let sources = [
         ("include/roster.h", header(), table.len()),
         ("crates/limits/src/refusal.rt", constants(), table.len()),
-        ("the trace", rows_of("crates/cause_text/src/meanings.rt"), table.len()),
+        ("the trace", rows_of("crates/cause_text/src/meanings.rt"), OF_A_SCHEDULE),
         ("the picture", arms("tools/hillpicture/refusals.rs"), 9),
     ];
     for (source, said, fewest) in sources {

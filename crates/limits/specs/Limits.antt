@@ -45,3 +45,7 @@ longestForgery = 132
 -- "A schedule exceeds 65,536 bytes" (number 13)
 abbrev pub longestSchedule : ℕ
 longestSchedule = 65536
+
+-- "List every set of at most t links for up to 6 bases" (document 02, request 1, number 19)
+abbrev pub smallBases : ℕ
+smallBases = 6

@@ -37,6 +37,11 @@ pub const LONGEST_FORGERY: usize = 132;
 
 pub const LONGEST_SCHEDULE: usize = 65536;
 
+// Bases of a net whose sets of faulty links are listed, and links that may be faulty there.
+pub const SMALL_BASES: usize = 6;
+
+pub const SMALL_FAULTY: usize = (SMALL_BASES - 2) / 2;
+
 // The length of a frame of so many identifiers, which is its back distance too.
 pub fn frame_bytes(count: u8) -> usize
     ensures { λ r. ⌜ r ≡ frameBytes count ⌝ }

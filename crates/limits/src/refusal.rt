@@ -53,3 +53,9 @@ pub const CARRIED_BEFORE: u8 = 17;
 
 // A forgery is put on a good link.
 pub const FORGED_ON_GOOD: u8 = 18;
+
+// The net has more than 6 bases.
+pub const LARGE_NET: u8 = 19;
+
+// The number is past the last set.
+pub const SET_NUMBER: u8 = 20;

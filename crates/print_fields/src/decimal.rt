@@ -1,10 +1,9 @@
 // A number's decimal digits.
+use crate::MOST_DIGITS;
 ghost use mathlib.Core.Path.{_≡_};
 ghost use Prim.Native.Nat.{_+_, _<_, _≤_};
 ghost use lib.ListN.{length, drop};
 ghost use Rattle.print.specs.Decimal.{mostDigits, decimalText};
-
-pub(crate) const MOST_DIGITS: usize = 20;
 
 // The digits stand at the array's end.
 pub(crate) struct Digits {

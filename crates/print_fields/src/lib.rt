@@ -1,13 +1,15 @@
 // A label and a number in decimal, put at a place of an output. Where both do not fit, nothing is written, and the place stays.
 mod decimal;
 
-use crate::decimal::MOST_DIGITS;
 use crate::decimal::decimal;
 use print::has_room;
 use print::put_text;
 ghost use mathlib.Core.Path.{_≡_};
 ghost use Rattle.print.specs.Put.{textEnd, textOutput};
 ghost use Rattle.print.specs.Decimal.{fieldText};
+
+// Digits of the largest number of 64 bits.
+pub const MOST_DIGITS: usize = 20;
 
 // A label and a number in decimal at a place; the answer is the place behind them.
 pub fn put_field(out: &mut [u8], at: usize, label: &[u8], v: u64) -> usize

@@ -11,9 +11,9 @@ ghost use Rattle.schedule.specs.Report.{waitingLine, refusedLine, lineRoom};
 // The bytes of `base `, the digits of a base's number, and the line feed.
 const BASE_BYTES: usize = 5;
 
-const NUMBER_DIGITS: usize = 3;
+pub const NUMBER_DIGITS: usize = 3;
 
-const FEED_BYTES: usize = 1;
+pub const FEED_BYTES: usize = 1;
 
 // Room for any line: the longest is that of a base.
 pub const LINE_ROOM: usize = BASE_BYTES + NUMBER_DIGITS + STATE_ROOM + FEED_BYTES;

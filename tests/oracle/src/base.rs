@@ -110,12 +110,17 @@ fn judge_net(n: usize, t: usize, own: u32, fault: Fault) -> Result<(), Number> {
     if fault == Fault::ThreeBeforeTwo && own == 0 {
         return Err(refusal::OWN_IDENTIFIER);
     }
-    let limit = most_faulty(n) + usize::from(fault == Fault::HigherLimitOfT);
-    if t > limit {
-        return Err(refusal::FAULTY_LIMIT);
-    }
+    judge_limit(n, t, fault)?;
     if own == 0 {
         return Err(refusal::OWN_IDENTIFIER);
+    }
+    Ok(())
+}
+
+/// "2. t is above its limit.", where n has passed number 1.
+pub fn judge_limit(n: usize, t: usize, fault: Fault) -> Result<(), Number> {
+    if t > most_faulty(n) + usize::from(fault == Fault::HigherLimitOfT) {
+        return Err(refusal::FAULTY_LIMIT);
     }
     Ok(())
 }

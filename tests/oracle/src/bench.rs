@@ -4,6 +4,7 @@ use crate::base::{Base, State, Vote};
 use crate::engine::Engine;
 use crate::faults::Fault;
 use crate::limits::{most_faulty, LONGEST_BURST, LONGEST_FRAME, LONGEST_SCHEDULE, MOST_BASES, OUTPUT_ROOM, REPORT_ROOM};
+use crate::limits::{SMALL_BASES, SMALL_FAULTY, SMALL_SETS};
 use crate::message::Message;
 use crate::model::Model;
 use crate::net::{Event, History, Net, Setting};
@@ -19,6 +20,8 @@ enum Work {
     Read(usize, Vec<u8>),
     Write(usize, Vec<u32>),
     Replay(Vec<u8>),
+    /// The model has the set in a table.
+    FaultySet(usize),
 }
 
 impl Work {
@@ -36,6 +39,7 @@ impl Work {
             Work::Read(n, burst) => drop(black_box(engine.read(*n, burst))),
             Work::Write(n, ids) => drop(black_box(engine.write(*n, 3, ids, &mut out))),
             Work::Replay(schedule) => drop(black_box(engine.replay(schedule, &mut [0; REPORT_ROOM]))),
+            Work::FaultySet(number) => drop(black_box(engine.faulty_set(SMALL_BASES, SMALL_FAULTY, black_box(*number)))),
         }
         black_box(&out);
     }
@@ -150,6 +154,7 @@ fn rows() -> Vec<(String, Work)> {
     rows.push((format!("frame of {MOST_BASES} written"), Work::Write(MOST_BASES, list(MOST_BASES))));
     let schedule = full_schedule();
     rows.push((format!("schedule of {} bytes, {MOST_BASES} bases", schedule.len()), Work::Replay(schedule)));
+    rows.push((format!("faulty set of a number, n = {SMALL_BASES}"), Work::FaultySet(SMALL_SETS - 1)));
     rows
 }
 

@@ -21,6 +21,9 @@ pub enum Case {
     Read { n: usize, burst: Vec<u8>, expect: Option<Number> },
     Write { n: usize, kind: u8, ids: Vec<u32>, out: Vec<u8> },
     Replay { schedule: Vec<u8>, out: Vec<u8>, expect: Option<String> },
+    FaultyCount { n: usize, t: usize, expect: Option<Number> },
+    FaultySet { n: usize, t: usize, number: usize, expect: Option<Number> },
+    FaultyText { schedule: Vec<u8>, out: Vec<u8>, expect: Option<String> },
     History(History),
 }
 
@@ -34,6 +37,9 @@ impl Case {
             Case::Read { .. } => "bursts read",
             Case::Write { .. } => "frames written",
             Case::Replay { .. } => "schedules",
+            Case::FaultyCount { .. } => "faulty sets counted",
+            Case::FaultySet { .. } => "faulty sets by number",
+            Case::FaultyText { .. } => "faulty sets printed",
             Case::History(_) => "histories",
         }
     }
@@ -66,6 +72,9 @@ impl Case {
                 let _ = both.write(*n, *kind, ids, &mut out.clone());
             }
             Case::Replay { schedule, out, expect } => run_schedule(&mut both, schedule, out, expect.as_deref()),
+            Case::FaultyCount { n, t, expect } => run_faulty_count(&mut both, *n, *t, *expect),
+            Case::FaultySet { n, t, number, expect } => run_faulty_set(&mut both, (*n, *t, *number), *expect),
+            Case::FaultyText { schedule, out, expect } => run_faulty_text(&mut both, schedule, out, expect.as_deref()),
             Case::History(history) => run_history(&mut both, history, reach),
         }
         both.difference
@@ -89,10 +98,30 @@ fn expected(both: &mut Compared, expect: Option<Number>, number: Number) {
 fn run_schedule(both: &mut Compared, schedule: &[u8], out: &[u8], expect: Option<&str>) {
     let mut out = out.to_vec();
     let length = both.replay(schedule, &mut out);
-    let report = String::from_utf8_lossy(&out[..length]).into_owned();
-    if let Some(expect) = expect.filter(|&expect| expect != report) {
-        both.note(format!("the schedule was made for the report {expect:?}, the model prints {report:?}"));
+    expected_text(both, expect, &out[..length]);
+}
+
+fn expected_text(both: &mut Compared, expect: Option<&str>, printed: &[u8]) {
+    let printed = String::from_utf8_lossy(printed);
+    if let Some(expect) = expect.filter(|&expect| expect != printed) {
+        both.note(format!("the schedule was made for the report {expect:?}, the model prints {printed:?}"));
     }
+}
+
+fn run_faulty_count(both: &mut Compared, n: usize, t: usize, expect: Option<Number>) {
+    let number = both.faulty_count(n, t).err().unwrap_or(0);
+    expected(both, expect, number);
+}
+
+fn run_faulty_set(both: &mut Compared, (n, t, number): (usize, usize, usize), expect: Option<Number>) {
+    let set = both.faulty_set(n, t, number);
+    expected(both, expect, set.refusal);
+}
+
+fn run_faulty_text(both: &mut Compared, schedule: &[u8], out: &[u8], expect: Option<&str>) {
+    let mut out = out.to_vec();
+    let length = both.faulty_text(schedule, &mut out);
+    expected_text(both, expect, &out[..length]);
 }
 
 /// Every event on both, demand 3 after each, then the same history as a schedule.

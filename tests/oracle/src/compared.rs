@@ -2,6 +2,7 @@
 //! guards are compared. What goes on is the model's.
 
 use crate::engine::{Answer, Engine, Leader, Reading};
+use crate::faulty::RawSet;
 use crate::guard::{Fenced, FencedRecord};
 use crate::model::Model;
 use crate::reader::Number;
@@ -47,6 +48,14 @@ impl<'e> Compared<'e> {
         if !theirs.intact() {
             self.note(format!("{call}: memory beside the output was changed"));
         }
+    }
+
+    /// What was printed at the front of the output, and the rest of the output.
+    fn same_text(&mut self, call: &str, (ours, length): (&[u8], usize), (theirs, their_length): (&Fenced, usize)) {
+        let text = |bytes: &[u8], length: usize| String::from_utf8_lossy(&bytes[..length.min(bytes.len())]).into_owned();
+        self.same(call, "report", text(ours, length), text(theirs.bytes(), their_length));
+        self.same(call, "length", length, their_length);
+        self.same_output(call, ours, theirs);
     }
 
     fn same_input(&mut self, call: &str, ours: &[u8], theirs: &Fenced) {
@@ -130,11 +139,34 @@ impl Engine for Compared<'_> {
         let (mut their_out, lent) = (Fenced::new(out), Fenced::new(schedule));
         let their_length = self.other.replay(lent.bytes(), their_out.bytes_mut());
         let length = self.truth.replay(schedule, out);
-        let text = |bytes: &[u8], length: usize| String::from_utf8_lossy(&bytes[..length.min(bytes.len())]).into_owned();
-        self.same("replay", "report", text(out, length), text(their_out.bytes(), their_length));
-        self.same("replay", "length", length, their_length);
-        self.same_output("replay", out, &their_out);
+        self.same_text("replay", (out, length), (&their_out, their_length));
         self.same_input("replay", schedule, &lent);
+        length
+    }
+
+    fn faulty_count(&mut self, n: usize, t: usize) -> Result<usize, Number> {
+        self.calls += 1;
+        let their_count = self.other.faulty_count(n, t);
+        let count = self.truth.faulty_count(n, t);
+        self.same("faulty_count", "answer", count, their_count);
+        count
+    }
+
+    fn faulty_set(&mut self, n: usize, t: usize, number: usize) -> RawSet {
+        self.calls += 1;
+        let their_set = self.other.faulty_set(n, t, number);
+        let set = self.truth.faulty_set(n, t, number);
+        self.same("faulty_set", "answer", set, their_set);
+        set
+    }
+
+    fn faulty_text(&mut self, schedule: &[u8], out: &mut [u8]) -> usize {
+        self.calls += 1;
+        let (mut their_out, lent) = (Fenced::new(out), Fenced::new(schedule));
+        let their_length = self.other.faulty_text(lent.bytes(), their_out.bytes_mut());
+        let length = self.truth.faulty_text(schedule, out);
+        self.same_text("faulty_text", (out, length), (&their_out, their_length));
+        self.same_input("faulty_text", schedule, &lent);
         length
     }
 }

@@ -1,5 +1,6 @@
 //! The calls that are compared, over raw records and byte buffers: once by the model, once by the proved engine.
 
+use crate::faulty::RawSet;
 use crate::reader::Number;
 use crate::record::RawBase;
 
@@ -55,4 +56,14 @@ pub trait Engine {
     /// The report of a schedule, at the output's front. Answers its length; 0, and nothing is written, where the output has not the room of
     /// every report.
     fn replay(&mut self, schedule: &[u8], out: &mut [u8]) -> usize;
+
+    /// How many sets of at most t links a small net has, or the number.
+    fn faulty_count(&mut self, n: usize, t: usize) -> Result<usize, Number>;
+
+    /// The set of a number, as it lies in memory: zeros behind its links, and all zero but the refusal where it is turned down.
+    fn faulty_set(&mut self, n: usize, t: usize, number: usize) -> RawSet;
+
+    /// Every set of the net that the first line names, at the output's front. Answers the lines' length; 0, and nothing is written, where
+    /// the output has not the room of all lists.
+    fn faulty_text(&mut self, schedule: &[u8], out: &mut [u8]) -> usize;
 }

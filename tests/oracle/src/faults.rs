@@ -6,7 +6,7 @@ macro_rules! faults {
     ($($name:ident: $says:literal,)*) => {
         #[derive(Clone, Copy, Debug, PartialEq, Eq)]
         pub enum Fault {
-            /// The model as document 01 has it.
+            /// The model as document 01 has it, and document 02's first request.
             None,
             /// A rule of soundness is not looked at.
             RuleSkipped(Rule),
@@ -111,6 +111,29 @@ faults! {
     LongScheduleLast: "an overlong schedule is refused only after its lines",
     LinkNumberOfOther: "a carry arrives on the link that has the sender's number",
     SecondaryPrintedPrime: "a secondary base is printed as prime",
+    LastSetLeftOut: "the last set of faulty links is left out",
+    EmptySetLeftOut: "the empty set is left out",
+    SetListedTwice: "a set of faulty links is listed twice",
+    SetInPlaceOfNext: "a set of faulty links stands in the place of the next one too",
+    SizesDownwards: "the larger sets of faulty links come first",
+    PairsBySecondBase: "pairs go by their second base",
+    PairsDescend: "the pairs of a set go downwards",
+    HigherBaseFirst: "a pair of a set has its higher base first",
+    CountWithoutEmptySet: "the count of the sets leaves out the empty one",
+    SetsFromOne: "the number of a set is taken from 1",
+    SetNumberCut: "the number of a set is cut to 32 bits",
+    LastSetRefused: "the last set's number is refused by 20",
+    SetPastLast: "the first number past the last set is taken for that set's",
+    SevenBasesListed: "the sets of seven bases are listed",
+    NineteenBeforeTwo: "number 19 is checked before 2",
+    TwentyBeforeNineteen: "number 20 is checked before 19",
+    RefusedSetKeepsAPair: "a set that is refused has a pair",
+    LinesFromOne: "the sets are printed with numbers from 1",
+    LineBehindNetRefused: "a line behind the net's is refused",
+    LongTextRefused: "a net's line is refused if the text is too long for a schedule",
+    NetLineUnended: "a net's line may lack its line feed",
+    ShortOutputWritten: "the sets are printed into an output that is too short",
+    OutputPastLinesTouched: "a byte of the output past the sets' lines is changed",
 }
 
 impl Fault {

@@ -1,9 +1,10 @@
-//! A second implementation of document 01 ("the oracle"), and the harness that holds an engine against it.
+//! A second implementation of document 01 and of document 02's first request ("the oracle"), and the harness that holds an engine
+//! against it.
 //!
-//! The model: limits, message, reader, writer, record, soundness, base, checks, steps, net, demand, schedule, replay, and model with the
-//! calls.
+//! The model: limits, message, reader, writer, record, soundness, base, checks, steps, net, demand, schedule, replay, faulty, and model
+//! with the calls.
 //! The harness: engine (the calls), guard and compared (one call on both), case, generate, plan, reach, shrink, runner, rng; faults.
-//! Stored cases: starred, twelve, stored. The trace program: trace. The proved engine: linked. Figures: bench.
+//! Stored cases: starred, twelve, stored. The programs: trace, listed. The proved engine: linked. Figures: bench.
 
 pub mod base;
 pub mod bench;
@@ -14,12 +15,14 @@ pub mod compared;
 pub mod demand;
 pub mod engine;
 pub mod faults;
+pub mod faulty;
 pub mod figures;
 pub mod generate;
 pub mod guard;
 pub mod limits;
 #[cfg(feature = "linked")]
 pub mod linked;
+pub mod listed;
 pub mod message;
 pub mod model;
 pub mod net;

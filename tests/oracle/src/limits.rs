@@ -31,9 +31,20 @@ pub const LINE_ROOM: usize = 37 + 11 * MOST_BASES;
 pub const REPORT_ROOM: usize = (MOST_BASES + 1) * LINE_ROOM;
 
 /// "t is at most (n − 2) / 2 rounded down"
-pub fn most_faulty(n: usize) -> usize {
+pub const fn most_faulty(n: usize) -> usize {
     (n - 2) / 2
 }
+
+/// Document 02, request 1: "List every set of at most t links for up to 6 bases".
+pub const SMALL_BASES: usize = 6;
+pub const SMALL_FAULTY: usize = most_faulty(SMALL_BASES);
+const SMALL_PAIRS: usize = SMALL_BASES * (SMALL_BASES - 1) / 2;
+
+/// The sets of a net of so many bases: none, one or two of its links.
+pub const SMALL_SETS: usize = 1 + SMALL_PAIRS + SMALL_PAIRS * (SMALL_PAIRS - 1) / 2;
+
+/// What the printed sets ask to be lent (include/roster.h): room for a line of each set and of each of its links. No list takes as much.
+pub const FAULTY_TEXT_ROOM: usize = SMALL_SETS * (25 + 15 * SMALL_FAULTY);
 
 /// "Link k of base b goes to base k if k < b, else to base k + 1."
 pub fn base_at(b: usize, link: usize) -> usize {
@@ -75,6 +86,8 @@ mod tests {
         assert_eq!((OUTPUT_ROOM, LONGEST_FRAME, REPORT_ROOM), (roster::OUTPUT_ROOM, roster::LONGEST_FRAME, roster::REPORT_ROOM));
         assert_eq!((SHORTEST_BURST, LONGEST_BURST), (roster::SHORTEST_BURST, roster::LONGEST_BURST));
         assert_eq!(LONGEST_SCHEDULE, roster::LONGEST_SCHEDULE);
+        assert_eq!((SMALL_BASES, SMALL_FAULTY, SMALL_SETS), (roster::SMALL_BASES, roster::SMALL_FAULTY, roster::SMALL_SETS));
+        assert_eq!(FAULTY_TEXT_ROOM, roster::FAULTY_TEXT_ROOM);
     }
 
     #[test]

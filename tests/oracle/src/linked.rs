@@ -1,9 +1,11 @@
 //! The proved engine, linked in as a C static library and called as any Rust program calls it: by include/roster.rs.
 
 use crate::engine::{Answer, Engine, Leader, Reading};
+use crate::faulty::RawSet;
 use crate::limits::MOST_BASES;
 use crate::reader::Number;
 use crate::record::RawBase;
+use crate::refusal;
 use crate::roster;
 
 pub struct Linked;
@@ -87,5 +89,22 @@ impl Engine for Linked {
 
     fn replay(&mut self, schedule: &[u8], out: &mut [u8]) -> usize {
         roster::replay(schedule, out)
+    }
+
+    fn faulty_count(&mut self, n: usize, t: usize) -> Result<usize, Number> {
+        let answer = roster::faulty_count(n, t);
+        match (answer.refusal, answer.count) {
+            (0, count) => Ok(count),
+            (number @ (refusal::BASES | refusal::FAULTY_LIMIT | refusal::LARGE_NET), 0) => Err(number),
+            _ => Err(NO_ANSWER),
+        }
+    }
+
+    fn faulty_set(&mut self, n: usize, t: usize, number: usize) -> RawSet {
+        roster::faulty_set(n, t, number)
+    }
+
+    fn faulty_text(&mut self, schedule: &[u8], out: &mut [u8]) -> usize {
+        roster::faulty_text(schedule, out)
     }
 }

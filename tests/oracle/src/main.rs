@@ -4,11 +4,12 @@ use oracle::engine::Engine;
 use oracle::faults::Fault;
 use oracle::model::Model;
 use oracle::schedule::render;
-use oracle::{bench, replay, runner, starred, stored, trace, twelve};
+use oracle::{bench, listed, replay, runner, starred, stored, trace, twelve};
 use std::io::Read;
 use std::process::ExitCode;
 
-const USAGE: &str = "usage: oracle [seconds] [seed] | faults [name] | starred | stored folder | trace program folder | bench
+const USAGE: &str =
+    "usage: oracle [seconds] [seed] | faults [name] | starred | stored folder | trace program folder | listed program | bench
        oracle replay < schedule | twelve";
 
 /// Schedules that are made for the trace program, beside the stored ones.
@@ -34,6 +35,7 @@ fn main() -> ExitCode {
         ["starred"] => check_starred(),
         ["stored", folder] => stored::run(folder),
         ["trace", program, folder] => trace::run(program, folder, MADE_FOR_THE_TRACE, 1),
+        ["listed", program] => listed::run(program),
         ["bench"] => bench::run(cfg!(feature = "linked").then_some(engine().as_mut())),
         ["replay"] => replay_input(),
         ["twelve"] => print_twelve(),

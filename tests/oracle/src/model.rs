@@ -3,7 +3,8 @@
 use crate::base::Base;
 use crate::engine::{Answer, Engine, Leader, Reading};
 use crate::faults::Fault;
-use crate::limits::{OUTPUT_ROOM, REPORT_ROOM};
+use crate::faulty::{self, RawSet};
+use crate::limits::{FAULTY_TEXT_ROOM, OUTPUT_ROOM, REPORT_ROOM};
 use crate::message::Message;
 use crate::reader::{read, Number};
 use crate::record::RawBase;
@@ -169,5 +170,29 @@ impl Engine for Model {
         let report = replay::report(schedule, self.fault);
         out[..report.len()].copy_from_slice(report.as_bytes());
         report.len()
+    }
+
+    fn faulty_count(&mut self, n: usize, t: usize) -> Result<usize, Number> {
+        faulty::count(n, t, self.fault)
+    }
+
+    fn faulty_set(&mut self, n: usize, t: usize, number: usize) -> RawSet {
+        match faulty::set(n, t, number, self.fault) {
+            Ok(links) => faulty::raw(&links),
+            Err(number) => faulty::refused(number, self.fault),
+        }
+    }
+
+    fn faulty_text(&mut self, schedule: &[u8], out: &mut [u8]) -> usize {
+        if out.len() < FAULTY_TEXT_ROOM && self.fault != Fault::ShortOutputWritten {
+            return 0;
+        }
+        let lines = faulty::lines(schedule, self.fault);
+        let end = lines.len().min(out.len());
+        out[..end].copy_from_slice(&lines.as_bytes()[..end]);
+        if self.fault == Fault::OutputPastLinesTouched && end < out.len() {
+            out[end] ^= 0xff;
+        }
+        end
     }
 }

@@ -1,13 +1,15 @@
 //! What a run tries: first every small thing once, then cases of all kinds in turn, as long as it is let.
 
 use crate::case::Case;
-use crate::generate::{arrivals, bursts, forms, histories, refusals, schedules, unsound};
+use crate::generate::{arrivals, bursts, faulty, forms, histories, refusals, schedules, unsound};
 use crate::rng::Rng;
 use crate::soundness::Rule;
 
-/// Each length of burst, each form of a schedule's lines, each pair of refusals and each rule of soundness, some times over.
+/// Each length of burst, each form of a schedule's lines, each pair of refusals and each rule of soundness, some times over; each set of
+/// a small net.
 pub fn sweep(rng: &mut Rng) -> Vec<Case> {
     let mut cases = forms::schedules();
+    cases.extend(faulty::sweep());
     for numbers in refusals::pairs() {
         for _ in 0..8 {
             cases.push(refusals::arrive(rng, &numbers));
@@ -43,6 +45,7 @@ pub fn at(seed: u64, place: u64) -> Case {
             let all = refusals::pairs();
             refusals::others(rng, &rng.clone().pick(&all).clone())
         }
+        32 => faulty::call(rng),
         _ => arrivals::call(rng),
     }
 }

@@ -5,7 +5,7 @@ use crate::limits::{frame_bytes, FEWEST_BASES, LONGEST_BURST, MOST_BASES, SHORTE
 use crate::message::{identifier_of, strictly_ascending, Kind, Message};
 use crate::refusal;
 
-/// A number of document 01's "Turning calls down".
+/// A number of document 01's "Turning calls down", or of a request of document 02.
 pub type Number = u8;
 
 #[derive(Clone, Debug, PartialEq, Eq)]

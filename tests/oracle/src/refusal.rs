@@ -1,4 +1,4 @@
-//! The numbers of document 01's "Turning calls down", by their names in docs/RULES.md.
+//! The numbers of document 01's "Turning calls down" and of document 02's requests, by their names in docs/RULES.md.
 
 use crate::reader::Number;
 
@@ -20,3 +20,5 @@ pub const FAULTY_LINKS: Number = 15;
 pub const NOT_BROADCAST: Number = 16;
 pub const CARRIED_BEFORE: Number = 17;
 pub const FORGED_ON_GOOD: Number = 18;
+pub const LARGE_NET: Number = 19;
+pub const SET_NUMBER: Number = 20;

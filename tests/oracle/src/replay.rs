@@ -1,8 +1,9 @@
 //! "The replay program": a schedule's bytes in, the report's text out.
 
+use crate::base::judge_limit;
 use crate::engine::{Answer, Engine, Leader};
 use crate::faults::Fault;
-use crate::limits::{most_faulty, LONGEST_SCHEDULE, OUTPUT_ROOM};
+use crate::limits::{LONGEST_SCHEDULE, OUTPUT_ROOM};
 use crate::model::Model;
 use crate::net::{Event, Net, Setting};
 use crate::reader::{net_size, Number};
@@ -18,13 +19,18 @@ pub struct Refused {
     pub line: usize,
 }
 
+impl Refused {
+    /// "The first refused line prints only `refused N line L`."
+    pub fn report(self, fault: Fault) -> String {
+        let line = if fault == Fault::LineOffByOne { self.line + 1 } else { self.line };
+        format!("refused {} line {line}\n", self.number)
+    }
+}
+
 pub fn report(schedule: &[u8], fault: Fault) -> String {
     match replay(schedule, fault) {
         Ok(net) => report_of(&net, fault),
-        Err(Refused { number, line }) => {
-            let line = if fault == Fault::LineOffByOne { line + 1 } else { line };
-            format!("refused {number} line {line}\n")
-        }
+        Err(refused) => refused.report(fault),
     }
 }
 
@@ -149,9 +155,7 @@ impl Player<'_> {
 /// `net n t`: refusals 1 and 2.
 fn begin(n: usize, t: usize, fault: Fault) -> Result<Stage, Number> {
     net_size(n)?;
-    if t > most_faulty(n) + usize::from(fault == Fault::HigherLimitOfT) {
-        return Err(refusal::FAULTY_LIMIT);
-    }
+    judge_limit(n, t, fault)?;
     Ok(Stage::Ids { n, t, ids: Vec::new() })
 }
 

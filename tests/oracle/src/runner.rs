@@ -111,7 +111,7 @@ fn tell(case: &Case, engine: &mut dyn Engine, seed: u64) {
     let what = case.run(engine, &mut Reach::default()).unwrap_or_default();
     let (ending, bytes) = match case {
         Case::History(history) => ("schedule", render(history).into_bytes()),
-        Case::Replay { schedule, .. } => ("schedule", schedule.clone()),
+        Case::Replay { schedule, .. } | Case::FaultyText { schedule, .. } => ("schedule", schedule.clone()),
         call => ("call", format!("{call:#?}\n").into_bytes()),
     };
     println!("shortened: {what}");
@@ -126,10 +126,11 @@ fn tell(case: &Case, engine: &mut dyn Engine, seed: u64) {
     }
 }
 
-/// The case, shortened. A difference in a lone call is looked for in histories too, since a schedule can be replayed.
+/// The case, shortened. A difference in a lone call on a base is looked for in histories too, since a schedule can be replayed.
 fn tell_shortened(case: &Case, engine: &mut dyn Engine, seed: u64) {
     tell(&shrink(case, engine), engine, seed);
-    if matches!(case, Case::History(_) | Case::Replay { .. }) {
+    let of_sets = matches!(case, Case::FaultyCount { .. } | Case::FaultySet { .. } | Case::FaultyText { .. });
+    if of_sets || matches!(case, Case::History(_) | Case::Replay { .. }) {
         return;
     }
     let cases = row(seed, 0).filter(|case| matches!(case, Case::History(_)));

@@ -31,6 +31,16 @@ fn shortest<T: Clone>(mut items: Vec<T>, until: Instant, mut differs: impl FnMut
     items
 }
 
+/// The same of a text: whole lines first, then bytes where few are left.
+fn shortest_text(text: &[u8], until: Instant, mut differs: impl FnMut(Vec<u8>) -> bool) -> Vec<u8> {
+    let lines = text.split_inclusive(|&byte| byte == b'\n').map(<[u8]>::to_vec).collect();
+    let left = shortest(lines, until, |lines: &[Vec<u8>]| differs(lines.concat())).concat();
+    if left.len() > 400 {
+        return left;
+    }
+    shortest(left, until, |bytes| differs(bytes.to_vec()))
+}
+
 pub fn shrink(case: &Case, engine: &mut dyn Engine) -> Case {
     let until = Instant::now() + PATIENCE;
     let mut differs = |case: &Case| case.run(engine, &mut Reach::default()).is_some();
@@ -41,11 +51,12 @@ pub fn shrink(case: &Case, engine: &mut dyn Engine) -> Case {
             make(&shortest(events, until, |events| differs(&make(events))))
         }
         Case::Replay { schedule, out, .. } => {
-            let make = |parts: &[Vec<u8>]| Case::Replay { schedule: parts.concat(), out: out.clone(), expect: None };
-            let lines = schedule.split_inclusive(|&byte| byte == b'\n').map(<[u8]>::to_vec).collect();
-            let lines = shortest(lines, until, |lines| differs(&make(lines)));
-            let bytes = if lines.concat().len() > 400 { lines } else { lines.concat().into_iter().map(|byte| vec![byte]).collect() };
-            make(&shortest(bytes, until, |bytes| differs(&make(bytes))))
+            let make = |schedule: Vec<u8>| Case::Replay { schedule, out: out.clone(), expect: None };
+            make(shortest_text(schedule, until, |text| differs(&make(text))))
+        }
+        Case::FaultyText { schedule, out, .. } => {
+            let make = |schedule: Vec<u8>| Case::FaultyText { schedule, out: out.clone(), expect: None };
+            make(shortest_text(schedule, until, |text| differs(&make(text))))
         }
         Case::Start { record, out, .. } => {
             let make = |record: RawBase| Case::Start { record, out: out.clone(), expect: None };

@@ -105,7 +105,7 @@ impl Compared {
     fn take(&mut self, program: &str, schedule: &[u8], name: &str) {
         let ours = by_the_model(schedule);
         let ending = ending(schedule);
-        match traced(program, schedule).and_then(|trace| Ok((by_the_trace(&trace)?, ends_with(&trace, &ending)))) {
+        match written(program, schedule).and_then(|trace| Ok((by_the_trace(&trace)?, ends_with(&trace, &ending)))) {
             Ok((theirs, true)) if theirs == ours => {
                 for told in ours {
                     *self.counts.entry(told.outcome).or_default() += 1;
@@ -220,7 +220,8 @@ fn trailer(number: Number, burst: &[u8]) -> String {
     }
 }
 
-fn traced(program: &str, schedule: &[u8]) -> Result<String, String> {
+/// What a program writes of a schedule.
+pub fn written(program: &str, schedule: &[u8]) -> Result<String, String> {
     let told = |error: std::io::Error| format!("{program}: {error}");
     let mut child = Command::new(program).stdin(Stdio::piped()).stdout(Stdio::piped()).spawn().map_err(told)?;
     let mut input = child.stdin.take().ok_or("no standard input")?;

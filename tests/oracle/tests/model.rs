@@ -1,21 +1,23 @@
-//! The model against sentences of document 01 that are about more than one call.
+//! The model against sentences of document 01 that are about more than one call, and against figures of document 02's first request.
 
 use oracle::base::Base;
 use oracle::case::Case;
 use oracle::demand;
 use oracle::engine::{Answer, Engine};
 use oracle::faults::Fault;
+use oracle::faulty;
 use oracle::generate::{arrivals, histories, records, unsound};
-use oracle::limits::{FEWEST_BASES, LONGEST_SCHEDULE, MOST_BASES, OUTPUT_ROOM};
+use oracle::limits::{FAULTY_TEXT_ROOM, FEWEST_BASES, LONGEST_SCHEDULE, MOST_BASES, OUTPUT_ROOM, SMALL_BASES};
 use oracle::message::Message;
 use oracle::model::Model;
 use oracle::net::{Event, Net, Setting};
 use oracle::record::RawBase;
-use oracle::refusal::{CARRIED_BEFORE, FORGED_ON_GOOD, NOT_BROADCAST, OUTPUT};
+use oracle::refusal::{BASES, CARRIED_BEFORE, FAULTY_LIMIT, FORGED_ON_GOOD, FORM, NOT_BROADCAST, OUTPUT, SET_NUMBER, LARGE_NET};
 use oracle::replay;
 use oracle::rng::Rng;
 use oracle::schedule::render;
 use oracle::soundness::{broken_rules, Rule};
+use std::collections::BTreeSet;
 
 fn two_bases() -> Net {
     let setting = Setting { t: 0, ids: vec![500, 300], faulty: [].into() };
@@ -116,4 +118,84 @@ fn a_seed_gives_one_row_of_cases() {
     let text = |case: Case| format!("{case:?}");
     assert!((0..200).all(|place| text(oracle::plan::at(3, place)) == text(oracle::plan::at(3, place))));
     assert_ne!(text(oracle::plan::at(3, 9)), text(oracle::plan::at(4, 9)));
+}
+
+/// "Number 0 is the empty set; with n = 6 and t = 2 there are 121", and which pairs some of them have, by hand.
+#[test]
+fn faulty_sets_have_the_numbers_of_the_request() {
+    let set = |number| faulty::set(6, 2, number, Fault::None);
+    assert_eq!(faulty::count(6, 2, Fault::None), Ok(121));
+    assert_eq!(set(0), Ok(vec![]));
+    assert_eq!([1, 5, 6, 15].map(set), [(1, 2), (1, 6), (2, 3), (5, 6)].map(|pair| Ok(vec![pair])));
+    assert_eq!([16, 29].map(set), [(1, 3), (5, 6)].map(|second| Ok(vec![(1, 2), second])));
+    assert_eq!([30, 120].map(set), [Ok(vec![(1, 3), (1, 4)]), Ok(vec![(4, 6), (5, 6)])]);
+    assert_eq!(set(121), Err(SET_NUMBER));
+    let counts = [(2, 0, 1), (3, 0, 1), (4, 0, 1), (4, 1, 7), (5, 0, 1), (5, 1, 11), (6, 0, 1), (6, 1, 16)];
+    assert!(counts.iter().all(|&(n, t, count)| faulty::count(n, t, Fault::None) == Ok(count)));
+}
+
+/// "Each set must come up just one time and none be left out": as many as there are ways to choose links, each of at most t, none twice.
+#[test]
+fn each_faulty_set_comes_up_just_one_time() {
+    for n in FEWEST_BASES..=SMALL_BASES {
+        let links = n * (n - 1) / 2;
+        for t in 0..=(n - 2) / 2 {
+            let ways = [1, links, links * (links - 1) / 2][..=t].iter().sum();
+            assert_eq!(faulty::count(n, t, Fault::None), Ok(ways));
+            let all: Vec<_> = (0..ways).map(|number| faulty::set(n, t, number, Fault::None).expect("a number of a set")).collect();
+            assert!(all.iter().all(|set| set.len() <= t && set.iter().all(|&(a, b)| 1 <= a && a < b && b <= n)));
+            assert!(all.iter().all(|set| set.windows(2).all(|two| two[0] < two[1])));
+            assert_eq!(all.iter().collect::<BTreeSet<_>>().len(), ways);
+        }
+    }
+}
+
+#[test]
+fn faulty_sets_are_refused_in_the_order_of_the_numbers() {
+    let number = |n, t, number| faulty::set(n, t, number, Fault::None).err().unwrap_or(0);
+    assert_eq!([number(1, 1, 9), number(MOST_BASES + 1, 99, usize::MAX)], [BASES; 2]);
+    assert_eq!([number(4, 2, 99), number(7, 3, 0), number(2, 1, 0)], [FAULTY_LIMIT; 3]);
+    assert_eq!([number(7, 2, usize::MAX), number(MOST_BASES, 0, 0)], [LARGE_NET; 2]);
+    assert_eq!([number(4, 1, 7), number(2, 0, 1), number(6, 2, usize::MAX)], [SET_NUMBER; 3]);
+    let raw = Model::TRUE.clone().faulty_set(6, 2, 121);
+    assert_eq!(raw, faulty::RawSet { refusal: SET_NUMBER, ..faulty::RawSet::BLANK });
+}
+
+/// Four bases that bear one faulty link, by hand.
+const SETS_OF_FOUR: &str = "set 0
+set 1
+faulty 1 2
+set 2
+faulty 1 3
+set 3
+faulty 1 4
+set 4
+faulty 2 3
+set 5
+faulty 2 4
+set 6
+faulty 3 4
+";
+
+fn faulty_text(schedule: &str, room: usize) -> String {
+    let mut out = vec![0; room];
+    let length = Model::TRUE.clone().faulty_text(schedule.as_bytes(), &mut out);
+    assert!(out[length..].iter().all(|&byte| byte == 0));
+    String::from_utf8(out[..length].to_vec()).expect("letters, digits and spaces")
+}
+
+#[test]
+fn faulty_text_of_small_nets() {
+    assert_eq!(faulty_text("net 4 1\n", FAULTY_TEXT_ROOM), SETS_OF_FOUR);
+    assert_eq!(faulty_text("net 4 1\nnonsense", FAULTY_TEXT_ROOM + 9), SETS_OF_FOUR);
+    assert_eq!(faulty_text("net 4 1\n", FAULTY_TEXT_ROOM - 1), "");
+    assert_eq!(faulty_text("net 3 0\n", FAULTY_TEXT_ROOM), "set 0\n");
+    let all = faulty_text("net 6 2\n", FAULTY_TEXT_ROOM);
+    assert!(all.starts_with("set 0\nset 1\nfaulty 1 2\nset 2\n"));
+    assert!(all.ends_with("set 119\nfaulty 4 5\nfaulty 5 6\nset 120\nfaulty 4 6\nfaulty 5 6\n"));
+    let forms = [("", FORM), ("net 4 1", FORM), ("net 07 9\n", FORM)];
+    let nets = [("net 17 9\n", BASES), ("net 7 3\n", FAULTY_LIMIT), ("net 7 2\n", LARGE_NET)];
+    for (text, number) in forms.into_iter().chain(nets) {
+        assert_eq!(faulty_text(text, FAULTY_TEXT_ROOM), format!("refused {number} line 1\n"));
+    }
 }

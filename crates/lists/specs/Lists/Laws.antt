@@ -2,14 +2,14 @@
 use mathlib.Core.Path.{_≡_, refl, sym, ap, _∙_}
 use mathlib.Core.Bool.{Bool, true, false, not}
 use mathlib.Core.List.{List, [], _∷_, _++_, map, append-assoc}
-use Prim.Native.Nat.{ℕ, suc, _+_, _-_, _<_, _≤_, min}
+use Prim.Native.Nat.{ℕ, zero, suc, _+_, _-_, _<_, _≤_, min}
 use native.Mathlib.Omega.{arith}
 use native.Mathlib.Numerals.{add-one}
-use borrow.Author.Tests.{lt-ltb, le-ltb, eq-eqb, ne-eqb}
-use lib.Dec.{eqb}
+use borrow.Author.Tests.{lt-ltb, le-ltb, eq-eqb, ne-eqb, leb-true, leb-false}
+use lib.Dec.{eqb, leb}
 use lib.ListN.{length, take, drop, getD, set, replicate, length-append, length-drop, length-map, length-take, length-replicate}
 use lib.ListN.{drop-of-length-le, List·getD-map}
-use lib.Seq.{drop-cons, take-at, getD-take, set-at}
+use lib.Seq.{drop-cons, take-at, take-all, getD-take, getD-append-add, set-at}
 use Rattle.lists.specs.Choice.{and, or}
 use Rattle.lists.specs.Lists.{nonzero, ascending, member, distinct, zeros, sameList, padTo}
 
@@ -118,6 +118,26 @@ module _ {A B : Type 0} (f : A → B) (k : ℕ) (l : List A) where
 
   pub taken-at : (i : ℕ) (none : A) → i < length (map f (take k l)) → f (getD l i none) ≡ getD (map f (take k l)) i (f none)
   taken-at i none h = ap f (sym (getD-take k l i none (omega (arith, taken-length)))) ∙ sym (List·getD-map f (take k l) i none)
+
+-- a number of elements that is at most the places is as good as the number itself
+pub take-least : {A : Type 0} (n k m : ℕ) (l : List A) → length l ≡ m → k ≡ min n m → take k l ≡ take n l
+take-least n k m l e h = cases (leb n m) refl
+  where
+    cases : (b : Bool) → leb n m ≡ b → take k l ≡ take n l
+    cases true q = let p : k ≡ n = omega (arith, leb-true n m q) in ap (λ (j : ℕ). take j l) p
+    cases false q = take-all k l (omega (arith, leb-false n m q)) ∙ sym (take-all n l (omega (arith, leb-false n m q)))
+
+-- ---- an element by its place
+pub map-at : {A B : Type 0} (f : A → B) (l : List A) (i : ℕ) (a : A) (b : B) → i < length l → getD (map f l) i b ≡ f (getD l i a)
+map-at f [] i a b h = absurd (omega arith)
+map-at f (x ∷ l) zero a b h = refl
+map-at f (x ∷ l) (suc i) a b h = map-at f l i a b (omega arith)
+
+-- a place behind a first list is one of the second
+pub getD-behind : {A : Type 0} (l k : List A) (i : ℕ) (d : A) → length l ≤ i → getD (l ++ k) i d ≡ getD k (i - length l) d
+getD-behind l k i d h =
+    let e : i ≡ length l + (i - length l) = omega arith in
+    ap (λ (j : ℕ). getD (l ++ k) j d) e ∙ getD-append-add l k (i - length l) d
 
 -- ---- a list in an array
 pub length-pad : (places : ℕ) (l : List ℕ) → length l ≤ places → length (padTo places l) ≡ places

@@ -38,6 +38,11 @@ repeat-sum zero k f first = let z : 0 + k ≡ k = omega arith in ap (λ (i : ℕ
 repeat-sum (suc j) k f first = let z : suc j + k ≡ suc (j + k) = omega arith in
     ap (λ (i : ℕ). repeat i f first) z ∙ ap f (repeat-sum j k f first)
 
+-- the first step, then the others
+pub repeat-first : {A : Type 0} (k : ℕ) (f : A → A) (first : A) → repeat (suc k) f first ≡ repeat k f (f first)
+unfolding repeat
+repeat-first k f first = ap (λ (i : ℕ). repeat i f first) (sym (add-one k)) ∙ repeat-sum k 1 f first
+
 pub repeat-done : {A : Type 0} (m k : ℕ) (f : A → A) (first : A) {p : A}
     → k ≤ m → p ≡ repeat k f first → f p ≡ p → p ≡ repeat m f first
 repeat-done m k f first {p} l e done =

@@ -13,7 +13,7 @@ use Rattle.print.specs.Decimal.Laws.{few-field}
 use Rattle.print.specs.Put.Laws.{put-as, put-fits, put-then, put-next, text-length, step}
 use Rattle.schedule.specs.Report.{identifierDigits, identifierRoom, leaderText, listText, finalText}
 use Rattle.protocol.specs.Steps.{leaderOf}
-use Rattle.state_text.specs.Laws.{take-least}
+use Rattle.lists.specs.Lists.Laws.{take-least}
 use Rattle.state_text.proofs.put_stopped.Statement.{statement}
 use Rattle.state_text.proofs.put_stopped.Tie as tie
 

@@ -48,7 +48,7 @@ pub fn schedules() -> Vec<Case> {
     let mut cases = vec![case(LINES.join("\n") + "\n", REPORT.to_string())];
     for &(line, texts, number) in WRONG {
         for text in texts {
-            let text = text.replace("MOST", &MOST_BASES.to_string()).replace("OVER", &(MOST_BASES + 1).to_string());
+            let text = filled(text);
             let mut lines = LINES;
             lines[line - 1] = &text;
             cases.push(case(lines.join("\n") + "\n", refused(number, line)));
@@ -59,6 +59,16 @@ pub fn schedules() -> Vec<Case> {
     }
     cases.extend(ends());
     cases
+}
+
+/// Every first line that is wrong, without its line feed, and the number.
+pub fn net_lines() -> Vec<(String, u8)> {
+    let first = WRONG.iter().filter(|&&(line, ..)| line == 1);
+    first.flat_map(|&(_, texts, number)| texts.iter().map(move |text| (filled(text), number))).collect()
+}
+
+fn filled(text: &str) -> String {
+    text.replace("MOST", &MOST_BASES.to_string()).replace("OVER", &(MOST_BASES + 1).to_string())
 }
 
 /// Schedules that end too early, or without a line feed, or repeat a carry, or have the longest forged burst.
@@ -112,7 +122,7 @@ fn report_of_a_repeat() -> String {
     "base 1 running\nbase 2 running\nbase 3 running\nbase 4 idle\nwaiting 17\n".to_string()
 }
 
-fn refused(number: u8, line: usize) -> String {
+pub fn refused(number: u8, line: usize) -> String {
     format!("refused {number} line {line}\n")
 }
 

@@ -2,6 +2,7 @@
 
 pub mod arrivals;
 pub mod bursts;
+pub mod faulty;
 pub mod forms;
 pub mod histories;
 pub mod hostile;

@@ -95,7 +95,7 @@ fn damage(rng: &mut Rng, text: &mut Vec<u8>) {
     *text = lines.concat();
 }
 
-fn spoiled_line(rng: &mut Rng, line: &[u8]) -> Vec<u8> {
+pub fn spoiled_line(rng: &mut Rng, line: &[u8]) -> Vec<u8> {
     let text = String::from_utf8_lossy(line).into_owned();
     let changed = match rng.below(11) {
         0 => text.replacen(' ', "  ", 1),
@@ -113,7 +113,7 @@ fn spoiled_line(rng: &mut Rng, line: &[u8]) -> Vec<u8> {
     changed.into_bytes()
 }
 
-fn spoiled_number(rng: &mut Rng, line: &[u8]) -> Vec<u8> {
+pub fn spoiled_number(rng: &mut Rng, line: &[u8]) -> Vec<u8> {
     let text = String::from_utf8_lossy(line).into_owned();
     let mut words: Vec<String> = text.trim_end().split(' ').map(str::to_string).collect();
     let at = rng.below(words.len());
@@ -133,7 +133,7 @@ fn spoiled_number(rng: &mut Rng, line: &[u8]) -> Vec<u8> {
     (words.join(" ") + "\n").into_bytes()
 }
 
-fn spoiled_byte(rng: &mut Rng, line: &[u8]) -> Vec<u8> {
+pub fn spoiled_byte(rng: &mut Rng, line: &[u8]) -> Vec<u8> {
     let mut bytes = line.to_vec();
     let at = rng.below(bytes.len());
     match rng.below(3) {

@@ -1,0 +1,5 @@
+pub mod Pairs
+pub mod Sets
+pub mod Count
+pub mod Statement
+pub mod Theorem
