@@ -78,9 +78,9 @@ impl World {
         Ok(roots)
     }
 
-    /// What link_sets/specs/Statement.antt states, and the definitions in the contracts of the calls on the sets of faulty links.
+    /// The statements about the sets of faulty links and about their lines, and the definitions in the contracts of the calls on them.
     fn set_roots(&self) -> Result<Vec<Place>, String> {
-        let mut roots = vec![place("link_sets/specs/Statement.antt", "EachOnce")];
+        let mut roots = vec![place("link_sets/specs/Statement.antt", "EachOnce"), place("set_text/specs/Taken.antt", "SetTaken")];
         for call in ["roster_faulty_count", "roster_faulty_set", "roster_faulty_text"] {
             roots.extend(self.contract("faulty_c", call)?);
         }

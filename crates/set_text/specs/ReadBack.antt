@@ -1,5 +1,5 @@
--- The lines of a set go into a schedule as they stand: wherever the line of a link of the net stands in a text, a schedule's reader takes it
--- for that link.
+-- The lines of a set go into a schedule as they stand: wherever the line of a link of the net stands in a text, a schedule's reader
+-- takes it for that link.
 use Prim.Native.Nat.{ℕ, _+_, _≤_}
 use mathlib.Core.Path.{_≡_, sym, ap, _∙_}
 use mathlib.Core.Bool.{true}

@@ -1,9 +1,9 @@
--- The lines of a set go into a schedule as they stand: where the lines of a header before them name no faulty link, a schedule's reader
--- takes them one after another, turns none of them down, and the net then has the links of the set for its faulty ones.
+-- The lines of a set go into a schedule as they stand: behind `net n t` and the `id` lines, where no `faulty` line follows them, the
+-- header is taken whole, and the net's faulty links are those of the set.
 use Prim.Native.Nat.{ℕ, zero, suc, _+_, _≤_, _<_}
 use mathlib.Core.Path.{_≡_, refl, sym, ap, _∙_}
-use mathlib.Core.Logic.{_⊎_, inl, inr}
-use mathlib.Core.Bool.{Bool, true, false, not}
+use mathlib.Core.Logic.{inl, inr}
+use mathlib.Core.Bool.{true, false, not}
 use mathlib.Core.List.{List, [], _∷_, _++_, map, append-assoc, append-nil}
 use native.Mathlib.Omega.{arith}
 use borrow.Author.Tests.{eq-eqb, ne-eqb, lt-leb}
@@ -13,30 +13,47 @@ use Rattle.lists.specs.Choice.{and}
 use Rattle.lists.specs.Choice.Laws.{choose-yes, choose-no, and-both, and-true, and-fails, and-no, or-neither}
 use Rattle.link_sets.specs.declared.LinkPair.{LinkPair}
 use Rattle.link_sets.specs.Statement.{OfNet, Precedes, Each, Ascending, LinkSet}
+use Rattle.limits.specs.Refusals.{sizeRefusal}
 use Rattle.text.specs.Number.{mostNumber}
-use Rattle.lines.specs.declared.bases.Two.the-variants.{Both}
-use Rattle.lines.specs.Lines.{faultyLine}
+use Rattle.text.specs.Number.Range.{Field}
+use Rattle.lines.specs.declared.bases.Two.the-variants.{Both, Neither}
+use Rattle.lines.specs.Lines.{netLine, idLine, faultyLine}
+use Rattle.lines.specs.Lines.Found.{number-ind, two-ind, TwoFound, net-found, id-found}
 use Rattle.protocol.specs.Net.{Pair, joins, good}
-use Rattle.schedule.specs.Header.{faultyRefusal}
-use Rattle.schedule.specs.Walk.{repeat, judged, unlessRefused, markStep, faultyStep}
-use Rattle.schedule.specs.Walk.Laws.{repeat-none, repeat-first}
-use Rattle.schedule.specs.Meaning.{Progress, onward, withFaulty, scheduled}
+use Rattle.schedule.specs.Header.{idRefusal, faultyRefusal}
+use Rattle.schedule.specs.Walk.{repeat, judged, unlessRefused, netStep, idStep, idSteps, markStep, faultyStep, headerWalk}
+use Rattle.schedule.specs.Walk.Laws.{repeat-none, repeat-first, repeat-done}
+use Rattle.schedule.specs.Meaning.{Progress, unread, refuse, onward, withSize, withId, withFaulty, header, scheduled}
+use Rattle.schedule.specs.Meaning.Laws.{judged-ind, unless-ind}
+use Rattle.schedule.specs.Meaning.Begins.{ids-whole}
 use Rattle.set_text.specs.Text.{pairLine, pairLines}
 use Rattle.set_text.specs.ReadBack.{pair-read}
 
 -- ---- the statement
+-- a header with its lines `net n t` and `id b v`
+abbrev pub withIds : List ℕ → Progress
+withIds text = idSteps scheduled text (netStep scheduled text unread .n) (netStep scheduled text unread)
+
 -- a link as a header's line names it
 abbrev pub named : LinkPair → Pair
 named p = record { one = p .lower; other = p .higher }
 
 -- a header that was read further, and the links that it has named
-abbrev readTo : ℕ → ℕ → List Pair → Progress → Progress
+abbrev pub readTo : ℕ → ℕ → List Pair → Progress → Progress
 readTo at line faulty st =
     record { at = at; line = line; refusal = st .refusal; n = st .n; t = st .t; faulty = faulty; net = st .net }
 
--- the header with the lines of a set
+-- a header with the lines of a set besides
 unfoldable pub withSet : List LinkPair → Progress → Progress
 withSet s st = readTo (st .at + length (pairLines s)) (st .line + length s) (st .faulty ++ map named s) st
+
+-- the lines of a set "can go into a schedule as they stand", before the events
+abbrev pub SetTaken : List ℕ → List LinkPair → List ℕ → Type 0
+SetTaken before s rest =
+    let text = before ++ (pairLines s ++ rest) in
+    let ids = withIds text in
+    ids .refusal ≡ 0 → ids .at ≡ length before → LinkSet (ids .n) (ids .t) s → faultyLine (ids .n) text (withSet s ids .at) ≡ Neither
+    → header text ≡ withSet s ids
 
 -- ---- a link that no line has named is good so far
 apart : (n : ℕ) (p q : LinkPair) → OfNet n q → Precedes p q → joins (named p) (q .lower) (q .higher) ≡ false
@@ -92,9 +109,9 @@ unfolding withSet pairLines withFaulty onward
 with-more p s st = read-to st (omega (arith, length-append (pairLine p) (pairLines s))) (omega arith)
     (append-assoc (st .faulty) (named p ∷ []) (map named s))
 
-first-line : (p : LinkPair) (s : List LinkPair) (rest : List ℕ) → pairLines (p ∷ s) ++ rest ≡ pairLine p ++ (pairLines s ++ rest)
+first-pair : (p : LinkPair) (s : List LinkPair) (rest : List ℕ) → pairLines (p ∷ s) ++ rest ≡ pairLine p ++ (pairLines s ++ rest)
 unfolding pairLines
-first-line p s rest = append-assoc (pairLine p) (pairLines s) rest
+first-pair p s rest = append-assoc (pairLine p) (pairLines s) rest
 
 lines-taken : (text : List ℕ) (s : List LinkPair) (st : Progress) (before rest : List ℕ) → text ≡ before ++ (pairLines s ++ rest)
     → st .at ≡ length before → st .refusal ≡ 0 → Each (OfNet (st .n)) s → Ascending s → Unnamed (st .faulty) s
@@ -104,7 +121,7 @@ lines-taken text [] st before rest e at r N A U few most = sym (repeat-none _ st
 lines-taken text (p ∷ s) st before rest e at r N A U few most =
     let next = st .at + length (pairLine p) in
     let then = withFaulty (p .lower) (p .higher) (onward next st) in
-    let begins : text ≡ before ++ (pairLine p ++ (pairLines s ++ rest)) = e ∙ ap (λ (u : List ℕ). before ++ u) (first-line p s rest) in
+    let begins : text ≡ before ++ (pairLine p ++ (pairLines s ++ rest)) = e ∙ ap (λ (u : List ℕ). before ++ u) (first-pair p s rest) in
     let line : faultyLine (st .n) text (st .at) ≡ Both (p .lower) (p .higher) next
     = rw (begins, at) (pair-read (st .n) p (N .0) most before (pairLines s ++ rest)) in
     let goes-on = begins ∙ sym (append-assoc before (pairLine p) (pairLines s ++ rest)) in
@@ -115,9 +132,40 @@ lines-taken text (p ∷ s) st before rest e at r N A U few most =
     ∙ ap (repeat (length s) (faultyStep scheduled text)) (one-taken text st (p .lower) (p .higher) next r line (U .0) (omega (arith, few)))
     ∙ others ∙ with-more p s st
 
+-- ---- the lines before those of a set name no faulty link
+abbrev Unmarked : Progress → Type 0
+Unmarked st = st .faulty ≡ []
+
+net-unmarked : (text : List ℕ) → Unmarked (netStep scheduled text unread)
+unfolding netStep unread refuse withSize onward
+net-unmarked text = two-ind Unmarked (netLine text 0) (TwoFound 0) (net-found text 0) refl
+    (λ n t next _. judged-ind Unmarked (sizeRefusal n t) unread (withSize n t (onward next unread)) (λ _. refl) (λ _. refl))
+
+id-unmarked : (text : List ℕ) (b : ℕ) (st : Progress) → Unmarked st → Unmarked (idStep scheduled text b st)
+unfolding idStep refuse withId onward
+id-unmarked text b st m = unless-ind Unmarked st _
+    (λ _. number-ind Unmarked (idLine b text (st .at)) (Field (st .at)) (id-found b text (st .at)) m
+    (λ v next _. judged-ind Unmarked (idRefusal (st .net) v) st (withId b v (onward next st)) (λ _. m) (λ _. m)))
+    (λ _. m)
+
+ids-unmarked : (text : List ℕ) (k : ℕ) (st : Progress) → Unmarked st → Unmarked (idSteps scheduled text k st)
+unfolding idSteps
+ids-unmarked text zero st m = m
+ids-unmarked text (suc k) st m = id-unmarked text (suc k) (idSteps scheduled text k st) (ids-unmarked text k st m)
+
 -- ---- a set
-pub set-taken : (n t : ℕ) (s : List LinkPair) → LinkSet n t s → (st : Progress) → st .n ≡ n → st .t ≡ t → n ≤ mostNumber
-    → st .faulty ≡ [] → st .refusal ≡ 0 → (before rest : List ℕ) → st .at ≡ length before
-    → repeat (length s) (faultyStep scheduled (before ++ (pairLines s ++ rest))) st ≡ withSet s st
-set-taken n t s S st en et most ef r before rest at = lines-taken _ s st before rest refl at r
-    (rw en (S .ofNet)) (S .ascends) (rw ef (all-unnamed s)) (omega (arith, S .few, et, ap length ef)) (omega (arith, en, most))
+read-all : (text : List ℕ) (st : Progress) → faultyLine (st .n) text (st .at) ≡ Neither → faultyStep scheduled text st ≡ st
+unfolding faultyStep
+read-all text st e = unless-ind (λ (x : Progress). x ≡ st) st _ (λ _. rw e refl) (λ _. refl)
+
+pub set-taken : (before : List ℕ) (s : List LinkPair) (rest : List ℕ) → SetTaken before s rest
+unfolding headerWalk withSet
+set-taken before s rest r at S last =
+    let text = before ++ (pairLines s ++ rest) in
+    let ids = withIds text in
+    let none = ids-unmarked text (netStep scheduled text unread .n) (netStep scheduled text unread) (net-unmarked text) in
+    let few : length (ids .faulty) + length s ≤ ids .t = omega (arith, S .few, ap length none) in
+    let lines = lines-taken text s ids before rest refl at r (S .ofNet) (S .ascends) (rw none (all-unnamed s)) few
+    (omega (arith, ids-whole text r .size .most)) in
+    sym (repeat-done (suc (ids .t)) (length s) (faultyStep scheduled text) ids
+    (omega (arith, few)) (sym lines) (read-all text (withSet s ids) last))

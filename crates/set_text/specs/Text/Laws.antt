@@ -60,11 +60,12 @@ set-linked number count p q {a} e {m} f =
     rw e (ap (λ (s : List LinkPair). (fieldText setWord number ++ feed) ++ pairLines s) some)
 
 -- ---- sets
-pub sets-none : linesFrom 0 [] ≡ []
+pub lines-none : linesFrom 0 [] ≡ []
 unfolding linesFrom
-sets-none = refl
+lines-none = refl
 
-from-append : (i : ℕ) (l : List (List LinkPair)) (s : List LinkPair) → linesFrom i (l ++ (s ∷ [])) ≡ linesFrom i l ++ setLines (i + length l) s
+from-append : (i : ℕ) (l : List (List LinkPair)) (s : List LinkPair)
+    → linesFrom i (l ++ (s ∷ [])) ≡ linesFrom i l ++ setLines (i + length l) s
 unfolding linesFrom
 from-append i [] s = let e : i ≡ i + 0 = omega arith in append-nil (setLines i s) ∙ ap (λ (k : ℕ). setLines k s) e
 from-append i (u ∷ l) s =
@@ -72,9 +73,9 @@ from-append i (u ∷ l) s =
     ap (λ (t : List ℕ). setLines i u ++ t) (from-append (suc i) l s ∙ ap (λ (k : ℕ). linesFrom (suc i) l ++ setLines k s) e)
     ∙ sym (append-assoc (setLines i u) (linesFrom (suc i) l) (setLines (i + suc (length l)) s))
 
-pub sets-more : (i : ℕ) (l : List (List LinkPair)) → i < length l → {s : List LinkPair} → s ≡ getD l i []
+pub lines-more : (i : ℕ) (l : List (List LinkPair)) → i < length l → {s : List LinkPair} → s ≡ getD l i []
     → linesFrom 0 (take i l) ++ setLines i s ≡ linesFrom 0 (take (i + 1) l)
-sets-more i l h {s} e =
+lines-more i l h {s} e =
     let many : i ≡ 0 + length (take i l) = omega (arith, length-take i l) in
     let last : setLines i s ≡ setLines (0 + length (take i l)) (getD l i [])
     = ap (λ (u : List LinkPair). setLines i u) e ∙ ap (λ (k : ℕ). setLines k (getD l i [])) many in

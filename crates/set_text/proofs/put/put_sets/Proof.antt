@@ -15,7 +15,7 @@ use Rattle.faulty_sets.specs.Answers.{answeredLinks}
 use Rattle.faulty_sets.specs.Answers.Laws.{set-answered, sets-few}
 use Rattle.faulty_sets.specs.Small.{smallFaulty}
 use Rattle.set_text.specs.Text.{setRoom, linesFrom}
-use Rattle.set_text.specs.Text.Laws.{sets-none, sets-more, room-left}
+use Rattle.set_text.specs.Text.Laws.{lines-none, lines-more, room-left}
 use Rattle.set_text.proofs.put.put_sets.Statement.{statement}
 use Rattle.set_text.proofs.put.put_sets.Tie as tie
 
@@ -32,7 +32,7 @@ room s number less =
     room-left number (s .args .count) _ less few (s .pre .2)
 
 loop-holds : tie.Need-loop-holds Inv-loop μ-loop
-loop-holds c = (omega arith, omega arith, refl, put-as (sym sets-none) (put-none _ _))
+loop-holds c = (omega arith, omega arith, refl, put-as (sym lines-none) (put-none _ _))
 
 faulty-set-requires : tie.Need-faulty-set-requires Inv-loop μ-loop
 faulty-set-requires c κs = search needs
@@ -61,7 +61,8 @@ loop-again c =
       omega (arith, less),
       omega (arith, l .inv .1, put .1),
       text-length (put .0) ∙ l .inv .2,
-      put-as (sets-more (l .number) (faultySets (s .args .n) (s .args .t)) (omega (arith, less, s .pre .1)) set) (put-then (l .inv .3) (put .0)),
+      put-as (lines-more (l .number) (faultySets (s .args .n) (s .args .t)) (omega (arith, less, s .pre .1)) set)
+          (put-then (l .inv .3) (put .0)),
     )
 
 same-length : tie.Need-same-length Inv-loop μ-loop
