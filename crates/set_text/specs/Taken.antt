@@ -43,11 +43,12 @@ abbrev pub readTo : ℕ → ℕ → List Pair → Progress → Progress
 readTo at line faulty st =
     record { at = at; line = line; refusal = st .refusal; n = st .n; t = st .t; faulty = faulty; net = st .net }
 
--- a header with the lines of a set besides
+-- a header with the lines of a set besides, whose links are its faulty ones
 unfoldable pub withSet : List LinkPair → Progress → Progress
-withSet s st = readTo (st .at + length (pairLines s)) (st .line + length s) (st .faulty ++ map named s) st
+withSet s st = readTo (st .at + length (pairLines s)) (st .line + length s) (map named s) st
 
--- the lines of a set "can go into a schedule as they stand", before the events
+-- the lines of a set "can go into a schedule as they stand": where the lines before them are `net n t` and the `id` lines, none of them
+-- turned down, and no `faulty` line follows
 abbrev pub SetTaken : List ℕ → List LinkPair → List ℕ → Type 0
 SetTaken before s rest =
     let text = before ++ (pairLines s ++ rest) in
@@ -95,17 +96,21 @@ one-taken text st a b next r line g few =
     ∙ rw line (choose-no _ _ (ap not g) ∙ choose-yes _ _ (eq-eqb _ 0 (choose-no _ _ (lt-leb (st .t) (length (st .faulty)) few))))
 
 -- ---- all lines
+-- a header with the lines of some links behind those of others
+unfoldable withLines : List LinkPair → Progress → Progress
+withLines s st = readTo (st .at + length (pairLines s)) (st .line + length s) (st .faulty ++ map named s) st
+
 read-to : (st : Progress) {a b l m : ℕ} {f g : List Pair} → a ≡ b → l ≡ m → f ≡ g → readTo a l f st ≡ readTo b m g st
 read-to st {a} {b} {l} {m} {f} {g} ea el ef =
     ap (λ (x : ℕ). readTo x l f st) ea ∙ ap (λ (x : ℕ). readTo b x f st) el ∙ ap (λ (x : List Pair). readTo b m x st) ef
 
-with-none : (st : Progress) → withSet [] st ≡ st
-unfolding withSet pairLines
+with-none : (st : Progress) → withLines [] st ≡ st
+unfolding withLines pairLines
 with-none st = read-to st (omega arith) (omega arith) (append-nil (st .faulty))
 
 with-more : (p : LinkPair) (s : List LinkPair) (st : Progress)
-    → withSet s (withFaulty (p .lower) (p .higher) (onward (st .at + length (pairLine p)) st)) ≡ withSet (p ∷ s) st
-unfolding withSet pairLines withFaulty onward
+    → withLines s (withFaulty (p .lower) (p .higher) (onward (st .at + length (pairLine p)) st)) ≡ withLines (p ∷ s) st
+unfolding withLines pairLines withFaulty onward
 with-more p s st = read-to st (omega (arith, length-append (pairLine p) (pairLines s))) (omega arith)
     (append-assoc (st .faulty) (named p ∷ []) (map named s))
 
@@ -115,7 +120,7 @@ first-pair p s rest = append-assoc (pairLine p) (pairLines s) rest
 
 lines-taken : (text : List ℕ) (s : List LinkPair) (st : Progress) (before rest : List ℕ) → text ≡ before ++ (pairLines s ++ rest)
     → st .at ≡ length before → st .refusal ≡ 0 → Each (OfNet (st .n)) s → Ascending s → Unnamed (st .faulty) s
-    → length (st .faulty) + length s ≤ st .t → st .n ≤ mostNumber → repeat (length s) (faultyStep scheduled text) st ≡ withSet s st
+    → length (st .faulty) + length s ≤ st .t → st .n ≤ mostNumber → repeat (length s) (faultyStep scheduled text) st ≡ withLines s st
 unfolding withFaulty onward
 lines-taken text [] st before rest e at r N A U few most = sym (repeat-none _ st) ∙ sym (with-none st)
 lines-taken text (p ∷ s) st before rest e at r N A U few most =
@@ -159,7 +164,7 @@ unfolding faultyStep
 read-all text st e = unless-ind (λ (x : Progress). x ≡ st) st _ (λ _. rw e refl) (λ _. refl)
 
 pub set-taken : (before : List ℕ) (s : List LinkPair) (rest : List ℕ) → SetTaken before s rest
-unfolding headerWalk withSet
+unfolding headerWalk withSet withLines
 set-taken before s rest r at S last =
     let text = before ++ (pairLines s ++ rest) in
     let ids = withIds text in
@@ -167,5 +172,6 @@ set-taken before s rest r at S last =
     let few : length (ids .faulty) + length s ≤ ids .t = omega (arith, S .few, ap length none) in
     let lines = lines-taken text s ids before rest refl at r (S .ofNet) (S .ascends) (rw none (all-unnamed s)) few
     (omega (arith, ids-whole text r .size .most)) in
+    let set = lines ∙ read-to ids refl refl (ap (λ (f : List Pair). f ++ map named s) none) in
     sym (repeat-done (suc (ids .t)) (length s) (faultyStep scheduled text) ids
-    (omega (arith, few)) (sym lines) (read-all text (withSet s ids) last))
+    (omega (arith, few)) (sym set) (read-all text (withSet s ids) last))

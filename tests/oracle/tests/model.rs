@@ -12,7 +12,7 @@ use oracle::message::Message;
 use oracle::model::Model;
 use oracle::net::{Event, Net, Setting};
 use oracle::record::RawBase;
-use oracle::refusal::{BASES, CARRIED_BEFORE, FAULTY_LIMIT, FORGED_ON_GOOD, FORM, NOT_BROADCAST, OUTPUT, SET_NUMBER, LARGE_NET};
+use oracle::refusal::{BASES, CARRIED_BEFORE, FAULTY_LIMIT, FORGED_ON_GOOD, FORM, LARGE_NET, NOT_BROADCAST, OUTPUT, SET_NUMBER};
 use oracle::replay;
 use oracle::rng::Rng;
 use oracle::schedule::render;

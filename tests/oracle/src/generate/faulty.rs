@@ -5,7 +5,7 @@ use crate::generate::forms::{net_lines, refused};
 use crate::generate::schedules::{self, spoiled_byte, spoiled_line, spoiled_number};
 use crate::limits::{most_faulty, FAULTY_TEXT_ROOM, FEWEST_BASES, LONGEST_SCHEDULE, MOST_BASES, SMALL_BASES, SMALL_SETS};
 use crate::reader::Number;
-use crate::refusal::{BASES, FAULTY_LIMIT, FORM, SET_NUMBER, LARGE_NET};
+use crate::refusal::{BASES, FAULTY_LIMIT, FORM, LARGE_NET, SET_NUMBER};
 use crate::rng::Rng;
 
 /// How many sets each small net has: n, t, and the count by hand, of 1, 3, 6, 10 and 15 links.
