@@ -2,10 +2,9 @@
 -- takes it for that link.
 use Prim.Native.Nat.{ℕ, _+_, _≤_}
 use mathlib.Core.Path.{_≡_, sym, ap, _∙_}
-use mathlib.Core.Bool.{true}
 use mathlib.Core.List.{List, _∷_, _++_, append-assoc}
 use native.Mathlib.Omega.{arith}
-use borrow.Author.Tests.{lt-ltb, le-leb}
+use borrow.Author.Tests.{lt-ltb}
 use lib.ListN.{length, drop, length-append}
 use lib.Seq.{drop-append-seam, drop-drop}
 use Rattle.lists.specs.Choice.Laws.{choose-yes, and-both}
@@ -16,7 +15,8 @@ use Rattle.words.specs.declared.Word.the-variants.{Past}
 use Rattle.words.specs.Word.{wordFrom, wordAt}
 use Rattle.print.specs.Decimal.{decimalText}
 use Rattle.lines.specs.declared.bases.Two.the-variants.{Both}
-use Rattle.lines.specs.Lines.{space, lineFeed, faultyWord, isBase, faultyLine}
+use Rattle.lines.specs.Lines.{space, lineFeed, faultyWord, faultyLine}
+use Rattle.lines.specs.Lines.Laws.{is-base}
 use Rattle.schedule.specs.ReadBack.{word-read, two-read}
 use Rattle.set_text.specs.Text.{pairLine}
 
@@ -29,10 +29,6 @@ line-length : (l : LinkPair)
     → length (pairLine l) ≡ length faultyWord + length (decimalText (l .lower)) + 1 + length (decimalText (l .higher)) + 1
 unfolding pairLine
 line-length l = simp length-append (omega arith)
-
-is-base : (n b : ℕ) → 1 ≤ b → b ≤ n → isBase n b ≡ true
-unfolding isBase
-is-base n b some most = and-both (le-leb _ _ some) (le-leb _ _ most)
 
 pub pair-read : (n : ℕ) (l : LinkPair) → OfNet n l → n ≤ mostNumber → (before rest : List ℕ)
     → faultyLine n (before ++ (pairLine l ++ rest)) (length before) ≡ Both (l .lower) (l .higher) (length before + length (pairLine l))

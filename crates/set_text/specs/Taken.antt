@@ -25,15 +25,11 @@ use Rattle.schedule.specs.Walk.{repeat, judged, unlessRefused, netStep, idStep,
 use Rattle.schedule.specs.Walk.Laws.{repeat-none, repeat-first, repeat-done}
 use Rattle.schedule.specs.Meaning.{Progress, unread, refuse, onward, withSize, withId, withFaulty, header, scheduled}
 use Rattle.schedule.specs.Meaning.Laws.{judged-ind, unless-ind}
-use Rattle.schedule.specs.Meaning.Begins.{ids-whole}
+use Rattle.schedule.specs.Meaning.Begins.{withIds, ids-whole}
 use Rattle.set_text.specs.Text.{pairLine, pairLines}
 use Rattle.set_text.specs.ReadBack.{pair-read}
 
 -- ---- the statement
--- a header with its lines `net n t` and `id b v`
-abbrev pub withIds : List ℕ → Progress
-withIds text = idSteps scheduled text (netStep scheduled text unread .n) (netStep scheduled text unread)
-
 -- a link as a header's line names it
 abbrev pub named : LinkPair → Pair
 named p = record { one = p .lower; other = p .higher }

@@ -9,6 +9,8 @@ use crate::reader::Number;
 use crate::record::{difference, RawBase};
 use std::fmt::Debug;
 
+type Printing = fn(&mut dyn Engine, &[u8], &mut [u8]) -> usize;
+
 pub struct Compared<'e> {
     truth: Model,
     other: &'e mut dyn Engine,
@@ -50,12 +52,18 @@ impl<'e> Compared<'e> {
         }
     }
 
-    /// What was printed at the front of the output, and the rest of the output.
-    fn same_text(&mut self, call: &str, (ours, length): (&[u8], usize), (theirs, their_length): (&Fenced, usize)) {
+    /// A call that prints what a schedule gives: its text at the front of the output, and the rest of the output.
+    fn printed(&mut self, call: &str, schedule: &[u8], out: &mut [u8], print: Printing) -> usize {
+        self.calls += 1;
+        let (mut their_out, lent) = (Fenced::new(out), Fenced::new(schedule));
+        let their_length = print(self.other, lent.bytes(), their_out.bytes_mut());
+        let length = print(&mut self.truth, schedule, out);
         let text = |bytes: &[u8], length: usize| String::from_utf8_lossy(&bytes[..length.min(bytes.len())]).into_owned();
-        self.same(call, "report", text(ours, length), text(theirs.bytes(), their_length));
+        self.same(call, "report", text(out, length), text(their_out.bytes(), their_length));
         self.same(call, "length", length, their_length);
-        self.same_output(call, ours, theirs);
+        self.same_output(call, out, &their_out);
+        self.same_input(call, schedule, &lent);
+        length
     }
 
     fn same_input(&mut self, call: &str, ours: &[u8], theirs: &Fenced) {
@@ -135,13 +143,7 @@ impl Engine for Compared<'_> {
     }
 
     fn replay(&mut self, schedule: &[u8], out: &mut [u8]) -> usize {
-        self.calls += 1;
-        let (mut their_out, lent) = (Fenced::new(out), Fenced::new(schedule));
-        let their_length = self.other.replay(lent.bytes(), their_out.bytes_mut());
-        let length = self.truth.replay(schedule, out);
-        self.same_text("replay", (out, length), (&their_out, their_length));
-        self.same_input("replay", schedule, &lent);
-        length
+        self.printed("replay", schedule, out, |engine, schedule, out| engine.replay(schedule, out))
     }
 
     fn faulty_count(&mut self, n: usize, t: usize) -> Result<usize, Number> {
@@ -161,12 +163,6 @@ impl Engine for Compared<'_> {
     }
 
     fn faulty_text(&mut self, schedule: &[u8], out: &mut [u8]) -> usize {
-        self.calls += 1;
-        let (mut their_out, lent) = (Fenced::new(out), Fenced::new(schedule));
-        let their_length = self.other.faulty_text(lent.bytes(), their_out.bytes_mut());
-        let length = self.truth.faulty_text(schedule, out);
-        self.same_text("faulty_text", (out, length), (&their_out, their_length));
-        self.same_input("faulty_text", schedule, &lent);
-        length
+        self.printed("faulty_text", schedule, out, |engine, schedule, out| engine.faulty_text(schedule, out))
     }
 }

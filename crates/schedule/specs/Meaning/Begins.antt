@@ -219,17 +219,21 @@ faulty-begins s st before =
     (λ a b next _. mark-begins a b next st (before none)))
 
 -- ---- the whole header
-pub ids-whole : (s : List ℕ) → Unrefused scheduled Whole (idSteps scheduled s (netStep scheduled s unread .n) (netStep scheduled s unread))
+-- the lines `net n t` and `id b v`
+abbrev pub withIds : List ℕ → Progress
+withIds s = let sized = netStep scheduled s unread in idSteps scheduled s (sized .n) sized
+
+pub ids-whole : (s : List ℕ) → Unrefused scheduled Whole (withIds s)
 ids-whole s e =
     let sized = netStep scheduled s unread in
     let g = ids-begin s (sized .n) (sized .n) sized (omega arith) (λ q. (net-begins s q, refl)) e in
-    subst (λ (k : ℕ). Begins k (idSteps scheduled s (sized .n) sized)) (sym (g .1)) (g .0)
+    subst (λ (k : ℕ). Begins k (withIds s)) (sym (g .1)) (g .0)
 
 pub header-begins : (s : List ℕ) → Unrefused scheduled Whole (header s)
 unfolding headerWalk
 header-begins s =
-    let named = idSteps scheduled s (netStep scheduled s unread .n) (netStep scheduled s unread) in
-    repeat-ind (Unrefused scheduled Whole) (faultyStep scheduled s) (λ st p. faulty-begins s st p) (suc (named .t)) named (ids-whole s)
+    let ids = withIds s in
+    repeat-ind (Unrefused scheduled Whole) (faultyStep scheduled s) (λ st p. faulty-begins s st p) (suc (ids .t)) ids (ids-whole s)
 
 -- ---- what agreement asks of the beginning
 pub begins-setting : (st : Progress) → Whole st → Setting (st .n) (st .t) (st .faulty)
