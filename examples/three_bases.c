@@ -14,6 +14,9 @@ struct sent {
 static struct sent air[BASES * ROSTER_MOST_BROADCASTS(BASES)];
 static int count;
 
+/* The airtime of each base so far, in slots. */
+static size_t own_slots[BASES], relayed_slots[BASES];
+
 static void broadcast(int from, const uint8_t *out, size_t length)
 {
     if (length == 0)
@@ -34,6 +37,8 @@ static int keep(int from, const uint8_t *out, roster_answer answer)
     broadcast(from, out, answer.first);
     broadcast(from, out + answer.first, answer.second);
     broadcast(from, out + answer.first + answer.second, answer.third);
+    own_slots[from - 1] += answer.own;
+    relayed_slots[from - 1] += answer.relayed;
     return 0;
 }
 
@@ -48,7 +53,7 @@ static void show(int number, roster_base *base)
     printf("base %d", number);
     for (int i = 0; i < BASES; i++)
         printf(" %u", (unsigned)base->final_list[i]);
-    printf(" leader %u\n", (unsigned)named.leader);
+    printf(" leader %u, slots: own %zu, relayed %zu\n", (unsigned)named.leader, own_slots[number - 1], relayed_slots[number - 1]);
 }
 
 int main(void)

@@ -7,8 +7,13 @@ use roster::{Answer, Base};
 
 const BASES: usize = 3;
 
-/// Every frame that was broadcast, with its sender, in the order written.
-type Air = Vec<(usize, Vec<u8>)>;
+/// Every frame that was broadcast, with its sender, in the order written; and the airtime of each base so far, own and relayed, in slots.
+#[derive(Default)]
+struct Air {
+    frames: Vec<(usize, Vec<u8>)>,
+    own: [usize; BASES],
+    relayed: [usize; BASES],
+}
 
 /// Accepted or discarded, the answer's frames go out on every link. A damaged burst is dropped; any other number is a mistake of ours.
 fn broadcast(air: &mut Air, from: usize, answer: &Answer, out: &[u8]) {
@@ -16,7 +21,9 @@ fn broadcast(air: &mut Air, from: usize, answer: &Answer, out: &[u8]) {
         eprintln!("base {from}: turned down by {}", answer.refusal);
         assert!(answer.refusal >= roster::REFUSAL_BURST);
     }
-    air.extend(roster::frames(answer, out).map(|frame| (from, frame.to_vec())));
+    air.frames.extend(roster::frames(answer, out).map(|frame| (from, frame.to_vec())));
+    air.own[from - 1] += answer.own;
+    air.relayed[from - 1] += answer.relayed;
 }
 
 fn main() {
@@ -24,7 +31,7 @@ fn main() {
     println!("version {}", roster::version());
     let mut out = [0u8; roster::OUTPUT_ROOM];
     let mut bases: Vec<Base> = Vec::new();
-    let mut air: Air = Vec::new();
+    let mut air = Air::default();
     for (i, own) in [500, 300, 400].into_iter().enumerate() {
         let made = roster::idle(BASES, 0, own);
         assert_eq!(made.refusal, 0, "no such base");
@@ -36,8 +43,8 @@ fn main() {
     let stored: Vec<[u8; roster::BASE_BYTES]> = bases.iter().map(|base| *base.as_bytes()).collect();
     let mut bases: Vec<Base> = stored.iter().map(restored).collect();
     let mut k = 0;
-    while k < air.len() {
-        let (from, frame) = air[k].clone();
+    while k < air.frames.len() {
+        let (from, frame) = air.frames[k].clone();
         for b in (1..=BASES).filter(|&b| b != from) {
             let link = if from < b { from } else { from - 1 };
             let answer = roster::arrive(&mut bases[b - 1], link, &frame, &mut out);
@@ -49,7 +56,7 @@ fn main() {
     let answer = roster::arrive(&mut bases[0], 1, b"noise", &mut out);
     broadcast(&mut air, 1, &answer, &out);
     for (i, base) in bases.iter_mut().enumerate() {
-        show(i + 1, base);
+        show(i + 1, base, &air);
     }
 }
 
@@ -61,11 +68,12 @@ fn restored(bytes: &[u8; roster::BASE_BYTES]) -> Base {
 }
 
 /// The list and the leader stand once the base has stopped, and not before.
-fn show(number: usize, base: &mut Base) {
+fn show(number: usize, base: &mut Base, air: &Air) {
     let named = roster::leader(base);
     if named.outcome != roster::LEADER_NAMED {
         return println!("base {number} has not stopped");
     }
     let list: Vec<String> = base.final_list[..BASES].iter().map(u32::to_string).collect();
-    println!("base {number} {} leader {}", list.join(" "), named.leader);
+    let (own, relayed) = (air.own[number - 1], air.relayed[number - 1]);
+    println!("base {number} {} leader {}, slots: own {own}, relayed {relayed}", list.join(" "), named.leader);
 }

@@ -41,8 +41,8 @@
  * answer with which it stops as well: others need its Correct-Final. After that it discards every fit burst and has nothing to send.
  *
  * Keep through a loss of power: the record, each frame until every link has acknowledged it (a base has ROSTER_MOST_BROADCASTS(n) in its
- * life), and ROSTER_VERSION beside them; a record of another version is not to be used. A base that forgets its record and starts again in
- * the same net is outside everything that was proved. After every call that is accepted, and after one that is discarded with frames,
+ * life), and ROSTER_RECORD_VERSION beside them; a record of another version of the record is not to be used. A base that forgets its record
+ * and starts again in the same net is outside everything that was proved. After every call that is accepted, and after one that is discarded with frames,
  * store the record and the frames together, in one step, before the burst is acknowledged and before the first of the frames is sent. A
  * call that is turned down, or discarded without frames, leaves the record as it was.
  * The record may be stored as its bytes, all of which belong to fields. A record that is read back and is not sound is turned down by 4
@@ -61,9 +61,12 @@
 extern "C" {
 #endif
 
-/* Counts up where a record, what a call does or what a number means changes; a call or a number that is added leaves it. roster_version()
- * answers that of libroster_c.a. */
-#define ROSTER_VERSION 1
+/* Counts up where a record, an answer, what a call does or what a number means changes; a call or a number that is added leaves it.
+ * roster_version() answers that of libroster_c.a: where the two differ, the program and the archive do not fit each other. */
+#define ROSTER_VERSION 2
+
+/* Counts up where the record changes; it is stored beside a record. */
+#define ROSTER_RECORD_VERSION 1
 
 /* Sizes. Most follow from the most bases of a net. */
 #define ROSTER_FEWEST_BASES 2
@@ -75,11 +78,19 @@ extern "C" {
 #define ROSTER_FRAME_BYTES(count) (4 * (count) + 4) /* of a frame of so many identifiers */
 #define ROSTER_LONGEST_FRAME ROSTER_FRAME_BYTES(ROSTER_MOST_BASES)
 #define ROSTER_OUTPUT_ROOM (2 * ROSTER_LONGEST_FRAME) /* bytes to lend to roster_start and roster_arrive */
+#define ROSTER_SLOT_BYTES 8
+#define ROSTER_FRAME_SLOTS(bytes) (((bytes) + ROSTER_SLOT_BYTES - 1) / ROSTER_SLOT_BYTES) /* of a frame of so many bytes */
 #define ROSTER_SHORTEST_BURST ROSTER_FRAME_BYTES(1)
 #define ROSTER_LONGEST_BURST (ROSTER_LONGEST_FRAME + 64)
 #define ROSTER_LONGEST_SCHEDULE 65536
 #define ROSTER_LINE_ROOM (37 + 11 * ROSTER_MOST_BASES)                  /* bytes for any line of a report */
 #define ROSTER_REPORT_ROOM ((ROSTER_MOST_BASES + 1) * ROSTER_LINE_ROOM) /* bytes to lend to roster_replay */
+
+/* Slots of airtime that a base of a net of n takes in its life at most: own, relayed, and both together. */
+#define ROSTER_LIST_SLOTS(n) ROSTER_FRAME_SLOTS(ROSTER_FRAME_BYTES(n))
+#define ROSTER_MOST_OWN_SLOTS(n) (2 + ROSTER_LIST_SLOTS(n))
+#define ROSTER_MOST_RELAYED_SLOTS(n) ((n) - 1 + ROSTER_LIST_SLOTS(n))
+#define ROSTER_MOST_SLOTS(n) (ROSTER_MOST_OWN_SLOTS(n) + ROSTER_MOST_RELAYED_SLOTS(n))
 
 /* The largest net whose sets of faulty links are listed. */
 #define ROSTER_SMALL_BASES 6
@@ -158,13 +169,17 @@ typedef struct roster_made {
 /* Discarded without frames: the record is as before. Discarded with frames: an idle base has just started, and has frames to send. */
 enum roster_outcome { ROSTER_REFUSED, ROSTER_ACCEPTED, ROSTER_DISCARDED };
 
-/* The lengths of the frames broadcast, in the order written; zero for none. */
+/* The lengths of the frames broadcast, in the order written; zero for none. Behind them the slots of airtime that these frames take, one
+ * for each ROSTER_SLOT_BYTES begun, each frame counted once though every link gets it: own are an Announce, a Verify of the own identifier
+ * and a Correct-Final, relayed is every other frame. A call that is turned down has none. What a transport sends again is not counted. */
 typedef struct roster_answer {
     uint8_t outcome; /* enum roster_outcome */
     uint8_t refusal; /* or zero */
     size_t first;
     size_t second;
     size_t third;
+    size_t own;
+    size_t relayed;
 } roster_answer;
 
 enum roster_leading { ROSTER_LEADER_REFUSED, ROSTER_LEADER_NAMED, ROSTER_NOT_STOPPED };
@@ -187,6 +202,7 @@ typedef struct roster_taken {
 typedef struct roster_put {
     uint8_t refusal; /* or zero */
     size_t length;   /* of the frame; zero where the call was turned down */
+    size_t slots;    /* that the frame takes; zero where the call was turned down */
 } roster_put;
 
 /* How many sets of faulty links there are. */
@@ -212,10 +228,10 @@ typedef struct roster_set {
 typedef char roster_layout_link[sizeof(roster_link) == 4 + 4 * ROSTER_LIST_ROOM + 4 * ROSTER_MOST_BASES + 4 ? 1 : -1];
 typedef char roster_layout_base[sizeof(roster_base) == 8 + 4 * ROSTER_MOST_BASES + ROSTER_MOST_LINKS * sizeof(roster_link) ? 1 : -1];
 typedef char roster_layout_made[sizeof(roster_made) == 4 + sizeof(roster_base) ? 1 : -1];
-typedef char roster_layout_answer[sizeof(roster_answer) == 8 + 3 * sizeof(size_t) ? 1 : -1];
+typedef char roster_layout_answer[sizeof(roster_answer) == 8 + 5 * sizeof(size_t) ? 1 : -1];
 typedef char roster_layout_named[sizeof(roster_named) == 8 ? 1 : -1];
 typedef char roster_layout_taken[sizeof(roster_taken) == 8 + 2 * sizeof(size_t) + 4 * ROSTER_MOST_BASES ? 1 : -1];
-typedef char roster_layout_put[sizeof(roster_put) == 8 + sizeof(size_t) ? 1 : -1];
+typedef char roster_layout_put[sizeof(roster_put) == 8 + 2 * sizeof(size_t) ? 1 : -1];
 typedef char roster_layout_count[sizeof(roster_count) == 8 + sizeof(size_t) ? 1 : -1];
 typedef char roster_layout_set[sizeof(roster_set) == 2 + 2 * ROSTER_SMALL_FAULTY ? 1 : -1];
 

@@ -9,7 +9,9 @@
 
 #![allow(dead_code)]
 
-pub const VERSION: u32 = 1;
+pub const VERSION: u32 = 2;
+/// Stored beside a record.
+pub const RECORD_VERSION: u32 = 1;
 
 pub const FEWEST_BASES: usize = 2;
 pub const MOST_BASES: usize = 16;
@@ -17,6 +19,7 @@ pub const MOST_LINKS: usize = MOST_BASES - 1;
 pub const LIST_ROOM: usize = MOST_BASES + 1;
 pub const LONGEST_FRAME: usize = frame_bytes(MOST_BASES);
 pub const OUTPUT_ROOM: usize = 2 * LONGEST_FRAME;
+pub const SLOT_BYTES: usize = 8;
 pub const SHORTEST_BURST: usize = frame_bytes(1);
 pub const LONGEST_BURST: usize = LONGEST_FRAME + 64;
 pub const LONGEST_SCHEDULE: usize = 65536;
@@ -57,6 +60,26 @@ pub const fn most_broadcasts(n: usize) -> usize {
 /// Of a frame of so many identifiers.
 pub const fn frame_bytes(count: usize) -> usize {
     4 * count + 4
+}
+
+/// Of a frame of so many bytes: one for each [`SLOT_BYTES`] begun.
+pub const fn frame_slots(bytes: usize) -> usize {
+    bytes.div_ceil(SLOT_BYTES)
+}
+
+/// Slots of airtime that a base of a net of n takes in its life at most: its own.
+pub const fn most_own_slots(n: usize) -> usize {
+    2 + frame_slots(frame_bytes(n))
+}
+
+/// Those that it relays.
+pub const fn most_relayed_slots(n: usize) -> usize {
+    n - 1 + frame_slots(frame_bytes(n))
+}
+
+/// Both together.
+pub const fn most_slots(n: usize) -> usize {
+    most_own_slots(n) + most_relayed_slots(n)
 }
 
 /// `Base::state`
@@ -157,7 +180,8 @@ pub struct Made {
     pub base: Base,
 }
 
-/// The lengths of the frames broadcast, in the order written; zero for none.
+/// The lengths of the frames broadcast, in the order written; zero for none. Behind them the slots of airtime that these frames take, each
+/// counted once though every link gets it: own are an Announce, a Verify of the own identifier and a Correct-Final, relayed is every other.
 #[repr(C)]
 #[derive(Clone, Copy, Debug, PartialEq, Eq)]
 pub struct Answer {
@@ -166,6 +190,8 @@ pub struct Answer {
     pub first: usize,
     pub second: usize,
     pub third: usize,
+    pub own: usize,
+    pub relayed: usize,
 }
 
 #[repr(C)]
@@ -192,6 +218,7 @@ pub struct Taken {
 pub struct Put {
     pub refusal: u8,
     pub length: usize,
+    pub slots: usize,
 }
 
 /// How many sets of faulty links there are; zero where the call was turned down.

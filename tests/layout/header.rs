@@ -40,12 +40,15 @@ fn stored() {
 }
 
 fn main() {
-    numbers!(VERSION FEWEST_BASES MOST_BASES MOST_LINKS LIST_ROOM LONGEST_FRAME);
-    numbers!(OUTPUT_ROOM SHORTEST_BURST LONGEST_BURST LONGEST_SCHEDULE LINE_ROOM REPORT_ROOM);
+    numbers!(VERSION RECORD_VERSION FEWEST_BASES MOST_BASES MOST_LINKS LIST_ROOM LONGEST_FRAME);
+    numbers!(OUTPUT_ROOM SLOT_BYTES SHORTEST_BURST LONGEST_BURST LONGEST_SCHEDULE LINE_ROOM REPORT_ROOM);
     numbers!(STACK_IDLE STACK_START STACK_ARRIVE STACK_LEADER STACK_READ STACK_WRITE STACK_REPLAY STACK_VERSION);
     numbers!(STACK_FAULTY_COUNT STACK_FAULTY_SET STACK_FAULTY_TEXT);
     numbers!(SMALL_BASES SMALL_FAULTY SMALL_PAIRS SMALL_SETS FAULTY_TEXT_ROOM);
     println!("MOST_FAULTY {}, MOST_BROADCASTS {}", most_faulty(MOST_BASES), most_broadcasts(MOST_BASES));
+    for n in FEWEST_BASES..=MOST_BASES {
+        println!("slots of {n} bases: own {}, relayed {}, together {}", most_own_slots(n), most_relayed_slots(n), most_slots(n));
+    }
     numbers!(IDLE RUNNING PRIME SECONDARY);
     numbers!(ANNOUNCE VERIFY CORRECT_FINAL VERIFY_FINAL);
     numbers!(REFUSED ACCEPTED DISCARDED);
@@ -59,10 +62,10 @@ fn main() {
     record!(Link link: announce verifies list verify_count held);
     record!(Base base: n t state sent own final_list links);
     record!(Made made: refusal base);
-    record!(Answer answer: outcome refusal first second third);
+    record!(Answer answer: outcome refusal first second third own relayed);
     record!(Named named: outcome refusal leader);
     record!(Taken taken: refusal kind count start ids);
-    record!(Put put: refusal length);
+    record!(Put put: refusal length slots);
     record!(Count count: refusal count);
     record!(Pair pair: lower higher);
     record!(Set set: refusal count pairs);

@@ -44,6 +44,7 @@ static roster_answer arrives(roster_base *base, size_t link, uint8_t kind, const
     roster_put put = roster_write(N, kind, ids, count, frame, sizeof frame);
     check("refusal of a frame", put.refusal, 0);
     check("length of a frame", put.length, ROSTER_FRAME_BYTES(count));
+    check("slots of a frame", put.slots, ROSTER_FRAME_SLOTS(put.length));
     return roster_arrive(base, link, frame, put.length, out, sizeof out);
 }
 
@@ -73,11 +74,15 @@ static void stops(roster_base *base, const uint32_t *list)
     roster_answer a = {0};
     arrives(base, 1, ROSTER_CORRECT_FINAL, list, N);
     check("sent, before two", base->sent, 0);
-    arrives(base, 2, ROSTER_CORRECT_FINAL, list, N);
+    a = arrives(base, 2, ROSTER_CORRECT_FINAL, list, N);
     check("sent, after two", base->sent, 1);
+    check("own slots of a vote", a.own, 0);
+    check("relayed slots of a vote", a.relayed, ROSTER_LIST_SLOTS(N));
     for (size_t link = 3; link <= T; link++)
         a = arrives(base, link, ROSTER_VERIFY_FINAL, list, N);
     check("answer of a stop", a.first, ROSTER_LONGEST_FRAME);
+    check("own slots of a stop", a.own, ROSTER_LIST_SLOTS(N));
+    check("relayed slots of a stop", a.relayed, 0);
     check("state", base->state, ROSTER_SECONDARY);
     for (uint32_t k = 0; k < N; k++)
         check("final_list", base->final_list[k], list[k]);
@@ -104,6 +109,8 @@ static void record(void)
     check("answer.first", a.first, ROSTER_FRAME_BYTES(1));
     check("answer.second", a.second, ROSTER_FRAME_BYTES(1));
     check("answer.third", a.third, 0);
+    check("answer.own", a.own, 2);
+    check("answer.relayed", a.relayed, 0);
     check("state", g.base.state, ROSTER_RUNNING);
     link_fields(&g.base, list);
     stops(&g.base, list);
@@ -127,11 +134,16 @@ static void answers(void)
     for (uint32_t k = 0; k < N; k++)
         check("taken.ids", taken.ids[k], ids[k]);
     check("refused read", roster_read(N, frame, ROSTER_SHORTEST_BURST - 1).refusal, ROSTER_REFUSAL_BURST);
-    check("refused write", roster_write(N, ROSTER_VERIFY_FINAL + 1, ids, N, frame, sizeof frame).refusal, ROSTER_REFUSAL_KIND);
+    put = roster_write(N, ROSTER_VERIFY_FINAL + 1, ids, N, frame, sizeof frame);
+    check("refused write", put.refusal, ROSTER_REFUSAL_KIND);
+    check("refused write's length", put.length, 0);
+    check("refused write's slots", put.slots, 0);
     roster_base zero = roster_idle(0, 0, 0).base;
     roster_answer a = roster_start(&zero, frame, sizeof frame);
     check("refused answer.outcome", a.outcome, ROSTER_REFUSED);
     check("refused answer.refusal", a.refusal, ROSTER_REFUSAL_BASES);
+    check("refused answer.own", a.own, 0);
+    check("refused answer.relayed", a.relayed, 0);
     check("refused named.refusal", roster_leader(&zero).refusal, ROSTER_REFUSAL_BASES);
 }
 

@@ -6,11 +6,12 @@ use lib.Dec.{eqb, leb}
 use lib.ListN.{length, take}
 use Rattle.limits.specs.Limits.{mostBases}
 use Rattle.lists.specs.Choice.{choose, and}
+use Rattle.frame.specs.declared.size.FrameSize.{FrameSize}
 use Rattle.frame.specs.Message.{expected}
 use Rattle.frame.specs.Encoding.{frameOf}
 use Rattle.frame_room.specs.Room.{frameFits}
 use Rattle.protocol.specs.declared.Outcome.{Outcome}
-use Rattle.protocol.specs.declared.Outcome.the-variants.{Accepted, Discarded, Refused}
+use Rattle.protocol.specs.declared.Outcome.the-variants.{Accepted}
 pub mod Laws
 
 -- the frame of a kind and the first identifiers of an array, where there is room for it; else nothing
@@ -24,13 +25,9 @@ frameIn n kind ids room =
 unfoldable pub lastFrame : ℕ → ℕ → List ℕ → Bool → List ℕ → ℕ → List ℕ
 lastFrame n first ids stops list room = choose stops (frameIn n 3 list (room - length (frameIn n first ids room))) []
 
--- accepted, with the lengths of at most two frames, zero for none
-unfoldable pub acceptedWith : ℕ → ℕ → Outcome
-acceptedWith x y = choose (eqb x 0) (Accepted y 0 0) (Accepted x y 0)
-
--- "An idle base starts first": the answer of a first message, behind the two frames of the start. A running base's message that is
--- its first broadcasts at most one frame.
-unfoldable pub behindStart : ℕ → ℕ → Outcome → Outcome
-behindStart x y (Accepted a b c) = Accepted x y a
-behindStart x y (Discarded a b c) = Discarded x y a
-behindStart x y (Refused r) = Refused r
+-- accepted, with the sizes of at most two frames, zero for none: one that is relayed, and the base's own Correct-Final
+unfoldable pub acceptedWith : FrameSize → FrameSize → Outcome
+acceptedWith x y =
+    choose (eqb (x .length) 0)
+    (Accepted (y .length) 0 0 (y .slots) (x .slots))
+    (Accepted (x .length) (y .length) 0 (y .slots) (x .slots))

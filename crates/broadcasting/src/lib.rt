@@ -2,6 +2,8 @@
 use frame::kind::CORRECT_FINAL;
 use frame::kind::Shape;
 use frame::kind::shape_of;
+use frame::size::FrameSize;
+use frame::size::frame_size;
 use framing::put;
 use limits::MOST_BASES;
 use protocol::Outcome;
@@ -9,38 +11,44 @@ ghost use mathlib.Core.Path.{_≡_};
 ghost use mathlib.Core.List.{_++_};
 ghost use Prim.Native.Nat.{_≤_};
 ghost use lib.ListN.{length};
+ghost use Rattle.frame.specs.Slots.{sizeOf};
 ghost use Rattle.frame.specs.Encoding.{over};
 ghost use Rattle.broadcasting.specs.Broadcasting.{frameIn, lastFrame, acceptedWith};
 
 // The frame of a kind and as many identifiers of an array as the kind holds. Nothing is written, length 0, for a kind that there is
 // not, for more identifiers than the array has, and where the output has no room.
-fn say(kind: u8, n: u8, ids: [u32; MOST_BASES], out: &mut [u8]) -> usize
-    ensures { λ r. ⌜ (r ≡ length (frameIn n kind ids (length (now (out .entry)))))
+fn say(kind: u8, n: u8, ids: [u32; MOST_BASES], out: &mut [u8]) -> FrameSize
+    ensures { λ r. ⌜ (r ≡ sizeOf (length (frameIn n kind ids (length (now (out .entry))))))
         × (now (out .exit) ≡ over (frameIn n kind ids (length (now (out .entry)))) (now (out .entry))) ⌝ }
 {
     let Shape::Known { count, length: _ } = shape_of(kind, n) else {
-        return 0;
+        return frame_size(0);
     };
     if MOST_BASES < count {
-        return 0;
+        return frame_size(0);
     }
     put(kind, n, &ids[..count], out)
 }
 
-fn accepted(first: usize, second: usize) -> Outcome
-    ensures { λ r. ⌜ r ≡ acceptedWith first second ⌝ }
+// The frame before the check is relayed, the Correct-Final behind it is the base's own.
+fn accepted(relayed: FrameSize, last: FrameSize) -> Outcome
+    ensures { λ r. ⌜ r ≡ acceptedWith relayed last ⌝ }
 {
-    if first == 0 {
+    if relayed.length == 0 {
         return Outcome::Accepted {
-            first: second,
+            first: last.length,
             second: 0,
             third: 0,
+            own: last.slots,
+            relayed: relayed.slots,
         };
     }
     Outcome::Accepted {
-        first,
-        second,
+        first: relayed.length,
+        second: last.length,
         third: 0,
+        own: last.slots,
+        relayed: relayed.slots,
     }
 }
 
@@ -54,16 +62,17 @@ pub fn put_broadcasts(
     list: [u32; MOST_BASES],
     out: &mut [u8],
 ) -> Outcome
-    ensures { λ r. ⌜ (r ≡ acceptedWith (length (frameIn n first ids (length (now (out .entry)))))
-        (length (lastFrame n first ids stops list (length (now (out .entry))))))
+    ensures { λ r. ⌜ (r ≡ acceptedWith (sizeOf (length (frameIn n first ids (length (now (out .entry))))))
+        (sizeOf (length (lastFrame n first ids stops list (length (now (out .entry)))))))
         × (now (out .exit) ≡ over
         (frameIn n first ids (length (now (out .entry))) ++ lastFrame n first ids stops list (length (now (out .entry))))
         (now (out .entry))) ⌝ }
 {
     let front = say(first, n, ids, out);
     if !stops {
-        return accepted(front, 0);
+        return accepted(front, frame_size(0));
     }
-    let back = say(CORRECT_FINAL, n, list, &mut out[front..]);
+    let behind = front.length;
+    let back = say(CORRECT_FINAL, n, list, &mut out[behind..]);
     accepted(front, back)
 }

@@ -1,5 +1,5 @@
 -- What the calls answer, as numbers. Document 01: "Its answer is accepted or discarded, with each frame's length"; "Each returns its
--- number".
+-- number". Document 02, request 2: "Start and arrival also answer with two sums".
 use Rattle.protocol.specs.declared.Outcome.{Outcome}
 use Rattle.protocol.specs.declared.Outcome.the-variants.{Accepted, Discarded, Refused}
 use Rattle.protocol.specs.declared.Leader.{Leader}
@@ -10,11 +10,13 @@ use Rattle.c_answers.specs.declared.CallAnswer.{CallAnswer}
 use Rattle.c_answers.specs.declared.LeaderAnswer.{LeaderAnswer}
 use Rattle.c_answers.specs.declared.WriteAnswer.{WriteAnswer}
 
--- accepted is 1, discarded is 2, turned down is 0
+-- accepted is 1, discarded is 2, turned down is 0; a call that is turned down has no frames and no slots
 unfoldable pub outcomeNumbers : Outcome → CallAnswer
-outcomeNumbers (Accepted a b c) = record { outcome = 1; refusal = 0; first = a; second = b; third = c }
-outcomeNumbers (Discarded a b c) = record { outcome = 2; refusal = 0; first = a; second = b; third = c }
-outcomeNumbers (Refused r) = record { outcome = 0; refusal = r; first = 0; second = 0; third = 0 }
+outcomeNumbers (Accepted a b c own relayed) =
+    record { outcome = 1; refusal = 0; first = a; second = b; third = c; own = own; relayed = relayed }
+outcomeNumbers (Discarded a b c own relayed) =
+    record { outcome = 2; refusal = 0; first = a; second = b; third = c; own = own; relayed = relayed }
+outcomeNumbers (Refused r) = record { outcome = 0; refusal = r; first = 0; second = 0; third = 0; own = 0; relayed = 0 }
 
 -- a leader named is 1, not stopped is 2, turned down is 0
 unfoldable pub leaderNumbers : Leader → LeaderAnswer
@@ -23,5 +25,5 @@ leaderNumbers leads.NotStopped = record { outcome = 2; refusal = 0; leader = 0 }
 leaderNumbers (leads.Refused r) = record { outcome = 0; refusal = r; leader = 0 }
 
 unfoldable pub writtenNumbers : Written → WriteAnswer
-writtenNumbers (writes.Length l) = record { refusal = 0; length = l }
-writtenNumbers (writes.Refused r) = record { refusal = r; length = 0 }
+writtenNumbers (writes.Frame size) = record { refusal = 0; length = size .length; slots = size .slots }
+writtenNumbers (writes.Refused r) = record { refusal = r; length = 0; slots = 0 }

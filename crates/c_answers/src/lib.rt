@@ -29,6 +29,9 @@ pub struct CallAnswer {
     pub first: usize,
     pub second: usize,
     pub third: usize,
+    // The slots of the frames that are its own, and of those that it relays.
+    pub own: usize,
+    pub relayed: usize,
 }
 
 // Of the leader call.
@@ -45,6 +48,7 @@ pub struct LeaderAnswer {
 pub struct WriteAnswer {
     pub refusal: u8,
     pub length: usize,
+    pub slots: usize,
 }
 
 pub fn outcome_numbers(outcome: Outcome) -> CallAnswer
@@ -55,23 +59,31 @@ pub fn outcome_numbers(outcome: Outcome) -> CallAnswer
             first,
             second,
             third,
+            own,
+            relayed,
         } => CallAnswer {
             outcome: ACCEPTED,
             refusal: 0,
             first,
             second,
             third,
+            own,
+            relayed,
         },
         Outcome::Discarded {
             first,
             second,
             third,
+            own,
+            relayed,
         } => CallAnswer {
             outcome: DISCARDED,
             refusal: 0,
             first,
             second,
             third,
+            own,
+            relayed,
         },
         Outcome::Refused(number) => CallAnswer {
             outcome: REFUSED,
@@ -79,6 +91,8 @@ pub fn outcome_numbers(outcome: Outcome) -> CallAnswer
             first: 0,
             second: 0,
             third: 0,
+            own: 0,
+            relayed: 0,
         },
     }
 }
@@ -109,10 +123,15 @@ pub fn written_numbers(written: Written) -> WriteAnswer
     ensures { λ r. ⌜ r ≡ writtenNumbers written ⌝ }
 {
     match written {
-        Written::Length(length) => WriteAnswer { refusal: 0, length },
+        Written::Frame(size) => WriteAnswer {
+            refusal: 0,
+            length: size.length,
+            slots: size.slots,
+        },
         Written::Refused(number) => WriteAnswer {
             refusal: number,
             length: 0,
+            slots: 0,
         },
     }
 }

@@ -22,7 +22,7 @@ changedBase b c = record {
 
 -- the answer, in the form that the call gives it, and the record are those of d
 pub record EndsAs {R : Type 0} (form : Outcome → R) (d : Done) (answer : R) (left : Base) : Type 0 where
-  pub outcome : answer ≡ form (outcomeOf (d .answer) (d .says))
+  pub outcome : answer ≡ form (outcomeOf d)
   pub base : left ≡ d .base
 
 -- and so is the output

@@ -70,6 +70,8 @@ pub fn discarded(base: Base, state: u8) -> Change
             first: 0,
             second: 0,
             third: 0,
+            own: 0,
+            relayed: 0,
         },
     )
 }

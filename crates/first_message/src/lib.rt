@@ -5,35 +5,43 @@ use deciding::Decision;
 use limits::MOST_BASES;
 use protocol::Outcome;
 use responding::respond;
+use start_frames::StartSizes;
 use start_frames::begin;
 ghost use mathlib.Core.Path.{_≡_};
 ghost use lib.ListN.{length};
 ghost use Rattle.frame.specs.Encoding.{over};
-ghost use Rattle.broadcasting.specs.Broadcasting.{behindStart};
-ghost use Rattle.first_message.specs.FirstMessage.{firstChange, firstFrames};
+ghost use Rattle.first_message.specs.FirstMessage.{behindStart, firstChange, firstFrames};
 
 // The answer of a first message, behind the two frames of the start.
-fn behind_start(announce: usize, verify: usize, outcome: Outcome) -> Outcome
-    ensures { λ r. ⌜ r ≡ behindStart announce verify outcome ⌝ }
+fn behind_start(start: StartSizes, outcome: Outcome) -> Outcome
+    ensures { λ r. ⌜ r ≡ behindStart start outcome ⌝ }
 {
     match outcome {
         Outcome::Accepted {
             first,
             second: _,
             third: _,
+            own: _,
+            relayed,
         } => Outcome::Accepted {
-            first: announce,
-            second: verify,
+            first: start.announce,
+            second: start.verify,
             third: first,
+            own: start.slots,
+            relayed,
         },
         Outcome::Discarded {
             first,
             second: _,
             third: _,
+            own: _,
+            relayed,
         } => Outcome::Discarded {
-            first: announce,
-            second: verify,
+            first: start.announce,
+            second: start.verify,
             third: first,
+            own: start.slots,
+            relayed,
         },
         Outcome::Refused(number) => Outcome::Refused(number),
     }
@@ -52,14 +60,14 @@ pub fn respond_first(
     ensures { λ r. ⌜ (r ≡ firstChange n own i accepted decision ids (length (now (out .entry))))
         × (now (out .exit) ≡ over (firstFrames n own (accepted .accepted) decision ids (length (now (out .entry)))) (now (out .entry))) ⌝ }
 {
-    let two = begin(n, own, out);
-    let start = two.front + two.next;
-    let rest = respond(n, i, accepted, decision, ids, &mut out[start..]);
+    let start = begin(n, own, out);
+    let behind = start.announce + start.verify;
+    let rest = respond(n, i, accepted, decision, ids, &mut out[behind..]);
     let answer = rest.outcome;
     let link = rest.link;
     let list = rest.final_list;
     Change {
-        outcome: behind_start(two.front, two.next, answer),
+        outcome: behind_start(start, answer),
         state: rest.state,
         sent: rest.sent,
         place: rest.place,

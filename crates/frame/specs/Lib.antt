@@ -1,3 +1,4 @@
 pub mod Message
 pub mod Encoding
+pub mod Slots
 pub mod Reading

@@ -50,9 +50,9 @@ pub(crate) fn reading(n: usize, burst: &[u8]) {
     text(b"\n");
 }
 
-fn written_length(written: Written) {
+fn written_size(written: Written) {
     match written {
-        Written::Length(length) => with_numbers(b"length #", [length, 0, 0]),
+        Written::Frame(size) => with_numbers(b"length # slots #", [size.length, size.slots, 0]),
         Written::Refused(r) => with_numbers(b"refused #", [r as usize, 0, 0]),
     }
 }
@@ -65,13 +65,14 @@ fn output_line(output: &[u8]) {
 
 // The answer of a write, and the output after it.
 pub(crate) fn written(n: usize, kind: u8, ids: &[u32], output: &mut [u8]) {
-    written_length(writer::write(n, kind, ids, output));
+    written_size(writer::write(n, kind, ids, output));
     output_line(output);
 }
 
-// The lengths of two frames, and the output after them.
+// The sizes of two frames, and the output after them.
 pub(crate) fn two(kind: u8, next: u8, n: u8, ids: &[u32], output: &mut [u8]) {
-    let lengths = two_frames::put_two(kind, next, n, ids, output);
-    with_numbers(b"lengths # #", [lengths.front, lengths.next, 0]);
+    let sizes = two_frames::put_two(kind, next, n, ids, output);
+    with_numbers(b"lengths # #", [sizes.front.length, sizes.next.length, 0]);
+    with_numbers(b" slots # #", [sizes.front.slots, sizes.next.slots, 0]);
     output_line(output);
 }

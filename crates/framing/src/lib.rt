@@ -4,6 +4,8 @@ mod bytes;
 use crate::bytes::put_four;
 use crate::bytes::put_identifier;
 use frame::kind::length_of;
+use frame::size::FrameSize;
+use frame::size::frame_size;
 use frame_room::frame_fits;
 use limits::IDENTIFIER_BYTES;
 use limits::TRAILER_BYTES;
@@ -11,6 +13,7 @@ ghost use mathlib.Core.Path.{_≡_};
 ghost use Prim.Native.Nat.{_≤_, _<_};
 ghost use lib.ListN.{length};
 ghost use Rattle.limits.specs.Limits.{frameBytes};
+ghost use Rattle.frame.specs.Slots.{sizeOf};
 ghost use Rattle.frame.specs.Encoding.{frameOf, over};
 ghost use Rattle.framing.specs.Framing.{putLength, putOutput};
 
@@ -35,16 +38,16 @@ fn put_frame(kind: u8, size: usize, ids: &[u32], out: &mut [u8])
     );
 }
 
-// The frame of a kind and its identifiers in a net of n bases; the answer is its length. Nothing is written, length 0, for a kind that
+// The frame of a kind and its identifiers in a net of n bases; the answer is its size. Nothing is written, length 0, for a kind that
 // there is not, for a list of another count than the kind holds, and where the output has no room for it.
-pub fn put(kind: u8, n: u8, ids: &[u32], out: &mut [u8]) -> usize
-    ensures { λ r. ⌜ (r ≡ putLength n kind (length (now (ids .entry))) (length (now (out .entry))))
+pub fn put(kind: u8, n: u8, ids: &[u32], out: &mut [u8]) -> FrameSize
+    ensures { λ r. ⌜ (r ≡ sizeOf (putLength n kind (length (now (ids .entry))) (length (now (out .entry)))))
         × (now (out .exit) ≡ putOutput n kind (now (ids .entry)) (now (out .entry))) ⌝ }
 {
     if !frame_fits(kind, n, ids.len(), out.len()) {
-        return 0;
+        return frame_size(0);
     }
     let size = length_of(kind, n);
     put_frame(kind, size, ids, out);
-    size
+    frame_size(size)
 }

@@ -3,7 +3,7 @@
 pub mod refusal;
 
 ghost use mathlib.Core.Path.{_≡_};
-ghost use Rattle.limits.specs.Limits.{frameBytes, mostFaulty};
+ghost use Rattle.limits.specs.Limits.{frameBytes, frameSlots, mostFaulty};
 ghost use Rattle.limits.specs.Refusals.{netRefusal, sizeRefusal, ownRefusal};
 
 pub const FEWEST_BASES: usize = 2;
@@ -32,6 +32,9 @@ pub const SHORTEST_BURST: usize = IDENTIFIER_BYTES + TRAILER_BYTES;
 
 pub const LONGEST_BURST: usize = LONGEST_FRAME + 64;
 
+// Bytes of a slot of airtime.
+pub const SLOT_BYTES: usize = 8;
+
 // Bytes that a line of a schedule can forge, and bytes of a schedule.
 pub const LONGEST_FORGERY: usize = 132;
 
@@ -47,6 +50,17 @@ pub fn frame_bytes(count: u8) -> usize
     ensures { λ r. ⌜ r ≡ frameBytes count ⌝ }
 {
     IDENTIFIER_BYTES * (count as usize) + TRAILER_BYTES
+}
+
+// The slots of a frame of so many bytes: one for each 8 bytes begun.
+pub fn frame_slots(length: usize) -> usize
+    ensures { λ r. ⌜ r ≡ frameSlots length ⌝ }
+{
+    let whole = length / SLOT_BYTES;
+    if length % SLOT_BYTES == 0 {
+        return whole;
+    }
+    whole + 1
 }
 
 // Number 1, or 0 where n is a number of bases that a net can have.

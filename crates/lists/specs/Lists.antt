@@ -12,6 +12,7 @@ pub mod Same
 pub mod Sets
 pub mod Zeros
 pub mod Sorted
+pub mod Sums
 
 -- no element is zero
 unfoldable pub nonzero : List ℕ → Bool
@@ -61,6 +62,6 @@ unfoldable pub sort : List ℕ → List ℕ
 sort [] = []
 sort (x ∷ xs) = insert x (sort xs)
 
-unfoldable pub sumOver : List ℕ → (ℕ → ℕ) → ℕ
+unfoldable pub sumOver : {A : Type 0} → List A → (A → ℕ) → ℕ
 sumOver [] f = 0
 sumOver (x ∷ xs) f = f x + sumOver xs f

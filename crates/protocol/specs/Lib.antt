@@ -2,6 +2,7 @@ pub mod Links
 pub mod Record
 pub mod Sound
 pub mod Steps
+pub mod Airtime
 pub mod Numbering
 pub mod Net
 pub mod Computed

@@ -16,6 +16,7 @@ use Rattle.protocol.specs.declared.Outcome.{Outcome}
 use Rattle.protocol.specs.declared.Outcome.the-variants.{Accepted, Discarded, Refused}
 use Rattle.protocol.specs.declared.Leader.{Leader}
 use Rattle.protocol.specs.declared.Leader.the-variants as leads
+use Rattle.protocol.specs.Airtime.{ownSlots, relayedSlots}
 use Rattle.protocol.specs.Links.{announces, holdsVerify, full}
 use Rattle.protocol.specs.Record.{linkAt, certified, tallySum, suspects, listTally, correctCount, finalList}
 use Rattle.protocol.specs.Sound.{idle, stopped, recordRefusal}
@@ -209,11 +210,17 @@ unfoldable pub lengths : List Message → List ℕ
 lengths [] = []
 lengths (m ∷ ms) = length (encode m) ∷ lengths ms
 
--- "Its answer is accepted or discarded, with each frame's length"
-unfoldable pub outcomeOf : Answer → List Message → Outcome
-outcomeOf accepted says = Accepted (getD (lengths says) 0 0) (getD (lengths says) 1 0) (getD (lengths says) 2 0)
-outcomeOf discarded says = Discarded (getD (lengths says) 0 0) (getD (lengths says) 1 0) (getD (lengths says) 2 0)
-outcomeOf (refused r) says = Refused r
+-- "Its answer is accepted or discarded, with each frame's length". "Start and arrival also answer with two sums over that call's frames":
+-- own and relayed, at a base with that identifier (document 02, request 2)
+unfoldable pub outcomeWith : ℕ → Answer → List Message → Outcome
+outcomeWith own accepted says = Accepted
+    (getD (lengths says) 0 0) (getD (lengths says) 1 0) (getD (lengths says) 2 0) (ownSlots own says) (relayedSlots own says)
+outcomeWith own discarded says = Discarded
+    (getD (lengths says) 0 0) (getD (lengths says) 1 0) (getD (lengths says) 2 0) (ownSlots own says) (relayedSlots own says)
+outcomeWith own (refused r) says = Refused r
+
+abbrev pub outcomeOf : Done → Outcome
+outcomeOf d = outcomeWith (d .base .own) (d .answer) (d .says)
 
 -- "Output bytes past them are unchanged."
 unfoldable pub outputOf : Done → List ℕ → List ℕ

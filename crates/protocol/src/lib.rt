@@ -40,18 +40,22 @@ pub struct Base {
     pub links: [Link; MOST_LINKS],
 }
 
-// What a call answers: accepted or discarded with the length of each frame that it broadcast, zero for none, or the number by which it was
-// turned down.
+// What a call answers: accepted or discarded with the length of each frame that it broadcast, zero for none, and the slots of those that
+// are its own and of those that it relays; or the number by which it was turned down.
 pub enum Outcome {
     Accepted {
         first: usize,
         second: usize,
         third: usize,
+        own: usize,
+        relayed: usize,
     },
     Discarded {
         first: usize,
         second: usize,
         third: usize,
+        own: usize,
+        relayed: usize,
     },
     Refused(u8),
 }

@@ -25,6 +25,8 @@ fn say_response(
             first: 0,
             second: 0,
             third: 0,
+            own: 0,
+            relayed: 0,
         };
     }
     let list = decision.final_list;

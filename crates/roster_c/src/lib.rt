@@ -22,7 +22,7 @@ ghost use Rattle.c_answers.specs.Numbers.{outcomeNumbers, leaderNumbers, writte
 ghost use Rattle.readings.specs.ReadNumbers.{readNumbers};
 
 // ROSTER_VERSION of include/roster.h.
-const VERSION: u32 = 1;
+const VERSION: u32 = 2;
 
 // An idle record from n, t and the own identifier. Turned down by 1 to 3.
 #[no_mangle]

@@ -1,5 +1,5 @@
-// The lines of a schedule one after another, what each did, and what waits behind them or why one is refused, told on standard output. Each
-// line of events is taken by the replay's own step.
+// The lines of a schedule one after another, what each did, and behind them what waits and how much airtime each base took, or why a line
+// is refused, told on standard output. Each line of events is taken by the replay's own step.
 use event_lines::line_steps;
 use limits::LONGEST_SCHEDULE;
 use line_trace::show_event;
@@ -10,41 +10,62 @@ use schedule_text::refused::explain_header;
 use schedule_text::refused::explain_length;
 use schedule_text::show_header;
 use schedule_text::waits::itemise;
+use slot_text::Totals;
+use slot_text::no_totals;
+use slot_text::say_totals;
+use slot_text::with_slots;
 
-fn step(s: &[u8], net: StoredNet) -> StoredNet {
+// The net behind the lines so far, and the slots of each base.
+struct Traced {
+    net: StoredNet,
+    totals: Totals,
+}
+
+fn step(s: &[u8], before: Traced) -> Traced {
+    let net = before.net;
+    let totals = before.totals;
     let after = line_steps(s, net, 1);
-    if after.refusal == 0 {
-        show_event(s, net);
+    if after.refusal != 0 {
+        return Traced { net: after, totals };
     }
-    after
+    Traced {
+        net: after,
+        totals: with_slots(totals, show_event(s, net)),
+    }
 }
 
 // Every event, up to the schedule's end or the first line that is refused.
-fn steps(s: &[u8], first: StoredNet) -> StoredNet {
-    let mut net = first;
+fn steps(s: &[u8], first: StoredNet) -> Traced {
+    let mut traced = Traced {
+        net: first,
+        totals: no_totals(),
+    };
     let mut k: usize = 0;
     while k < s.len() {
         k += 1;
-        if net.refusal != 0 {
-            return net;
+        if traced.net.refusal != 0 {
+            return traced;
         }
-        if s.len() <= net.at {
-            return net;
+        if s.len() <= traced.net.at {
+            return traced;
         }
-        net = step(s, net);
+        traced = step(s, traced);
     }
-    net
+    traced
 }
 
 // What stands behind the events.
-fn ending(schedule: &[u8], net: StoredNet) {
+fn ending(schedule: &[u8], traced: Traced) {
+    let net = traced.net;
+    let totals = traced.totals;
     if net.refusal != 0 {
         return explain_event(schedule, net);
     }
     itemise(net);
+    say_totals(totals, net.n);
 }
 
-// The lines, and what waits behind them or why one is refused.
+// The lines, and what stands behind them.
 pub fn show(schedule: &[u8]) {
     if LONGEST_SCHEDULE < schedule.len() {
         return explain_length(schedule);

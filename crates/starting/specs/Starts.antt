@@ -1,5 +1,5 @@
 -- The start call, by its number and the base's state, and what a start answers and writes.
-use Prim.Native.Nat.{ℕ, _*_, _≤_}
+use Prim.Native.Nat.{ℕ, _+_, _*_, _≤_}
 use mathlib.Core.Path.{_≡_, refl, sym, ap, _∙_}
 use mathlib.Core.Logic.{_≢_}
 use mathlib.Core.List.{List, [], _∷_}
@@ -9,20 +9,23 @@ use lib.ListN.{length}
 use Rattle.limits.specs.Limits.{frameBytes, outputRoom}
 use Rattle.lists.specs.Choice.{first}
 use Rattle.lists.specs.Choice.Laws.{choose-yes, choose-no, first-passed}
-use Rattle.frame.specs.Message.{kindOf, idsOf}
+use Rattle.lists.specs.Lists.{sumOver}
+use Rattle.frame.specs.Message.{announce, verify, kindOf, idsOf}
 use Rattle.frame.specs.Encoding.{frameOf, encode, over}
 use Rattle.frame.specs.Encoding.Laws.{length-frame}
 use Rattle.protocol.specs.declared.Base.{Base}
 use Rattle.protocol.specs.declared.Outcome.the-variants.{Accepted}
 use Rattle.protocol.specs.Sound.{idle, recordRefusal}
 use Rattle.protocol.specs.Steps.{refuses, discards, accepts, withState, begins, startStep, outputRefusal, start}
-use Rattle.protocol.specs.Steps.{lengths, outcomeOf, outputOf}
+use Rattle.protocol.specs.Steps.{lengths, outcomeWith, outcomeOf, outputOf}
+use Rattle.protocol.specs.Airtime.{ownPart, relayedPart, ownSlots, relayedSlots}
+use Rattle.protocol.specs.Airtime.Laws.{announce-part, own-verify-part}
 use Rattle.protocol.specs.Steps.Refusals.{unless-passed, unless-refused, output-passed}
 use Rattle.change.specs.declared.Change.{Change}
 use Rattle.change.specs.Change.{changedBase, Does}
-use Rattle.two_frames.specs.declared.TwoLengths.{TwoLengths}
-use Rattle.start_frames.specs.Frames.{startFrames, startLength}
-use Rattle.start_frames.specs.Frames.Laws.{start-length-is, start-says}
+use Rattle.start_frames.specs.declared.StartSizes.{StartSizes}
+use Rattle.start_frames.specs.Frames.{startFrames, startSizes}
+use Rattle.start_frames.specs.Frames.Laws.{start-sizes-are, start-says}
 
 module _ (b : Base) (room r : ℕ) (e : r ≡ first (recordRefusal b) (outputRefusal room)) where
   pub start-down : r ≢ 0 → start b room ≡ refuses b r
@@ -41,25 +44,27 @@ module _ (b : Base) (room r : ℕ) (e : r ≡ first (recordRefusal b) (outputRef
   start-on z k = unless-passed b _ (sym e ∙ z) ∙ choose-no _ _ (ne-eqb (b .state) 0 k)
 
 -- ---- the two frames
-begins-outcome : (b : Base) (front next : ℕ) → front ≡ frameBytes 1 → next ≡ frameBytes 1
-    → Accepted front next 0 ≡ outcomeOf (begins b .answer) (begins b .says)
-unfolding begins accepts outcomeOf lengths encode kindOf idsOf
-begins-outcome b front next e f =
-    let first : front ≡ length (frameOf 1 (b .own ∷ [])) = e ∙ sym (length-frame 1 (b .own ∷ [])) in
-    let second : next ≡ length (frameOf 2 (b .own ∷ [])) = f ∙ sym (length-frame 2 (b .own ∷ [])) in
-    λ j. Accepted (first j) (second j) 0
+begins-outcome : (b : Base) → Accepted (frameBytes 1) (frameBytes 1) 0 2 0 ≡ outcomeOf (begins b)
+unfolding begins accepts withState outcomeWith lengths ownSlots relayedSlots sumOver encode kindOf idsOf
+begins-outcome b =
+    let announced : frameBytes 1 ≡ length (frameOf 1 (b .own ∷ [])) = sym (length-frame 1 (b .own ∷ [])) in
+    let verified : frameBytes 1 ≡ length (frameOf 2 (b .own ∷ [])) = sym (length-frame 2 (b .own ∷ [])) in
+    let own : 2 ≡ ownPart (b .own) (announce (b .own)) + (ownPart (b .own) (verify (b .own)) + 0) =
+    omega (arith, announce-part (b .own) (b .own) .0, own-verify-part (b .own) .0) in
+    let relayed : 0 ≡ relayedPart (b .own) (announce (b .own)) + (relayedPart (b .own) (verify (b .own)) + 0) =
+    omega (arith, announce-part (b .own) (b .own) .1, own-verify-part (b .own) .1) in
+    λ j. Accepted (announced j) (verified j) 0 (own j) (relayed j)
 
-pub begins-does : (b : Base) (c : Change) (two : TwoLengths) (output after : List ℕ) → outputRoom ≤ length output
-    → two ≡ record { front = startLength (length output); next = startLength (length output) }
-    → c .outcome ≡ Accepted (two .front) (two .next) 0 → changedBase b c ≡ withState b 1
+pub begins-does : (b : Base) (c : Change) (s : StartSizes) (output after : List ℕ) → outputRoom ≤ length output
+    → s ≡ startSizes (length output)
+    → c .outcome ≡ Accepted (s .announce) (s .verify) 0 (s .slots) 0 → changedBase b c ≡ withState b 1
     → after ≡ over (startFrames (b .own) (length output)) output → Does b (begins b) c output after
 unfolding outputOf
-begins-does b c two output after wide e p q r =
-    let room : 2 * frameBytes 1 ≤ length output = omega (arith, wide) in
-    let one = start-length-is (length output) room in record {
+begins-does b c s output after wide e p q r =
+    let room : 2 * frameBytes 1 ≤ length output = omega (arith, wide) in record {
       changes = record {
-        outcome = p ∙ begins-outcome b (two .front) (two .next)
-            (ap (λ (t : TwoLengths). t .front) e ∙ one) (ap (λ (t : TwoLengths). t .next) e ∙ one);
+        outcome = p ∙ ap (λ (s : StartSizes). Accepted (s .announce) (s .verify) 0 (s .slots) 0) (e ∙ start-sizes-are (length output) room)
+            ∙ begins-outcome b;
         base = q ∙ base;
       };
       written = r ∙ ap (λ (s : List ℕ). over s output) (start-says b (length output) room);

@@ -32,9 +32,11 @@ pub fn start(base: Base, out: &mut [u8]) -> Change
         base,
         RUNNING,
         Outcome::Accepted {
-            first: two.front,
-            second: two.next,
+            first: two.announce,
+            second: two.verify,
             third: 0,
+            own: two.slots,
+            relayed: 0,
         },
     )
 }

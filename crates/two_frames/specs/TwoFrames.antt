@@ -4,20 +4,21 @@ use mathlib.Core.List.{List, _++_}
 use Prim.Native.Nat.{ℕ, _-_}
 use lib.ListN.{length}
 use Rattle.lists.specs.Choice.{choose, and}
+use Rattle.frame.specs.Slots.{sizeOf}
 use Rattle.frame.specs.Message.{lengthOf}
 use Rattle.frame.specs.Encoding.{frameOf, over}
 use Rattle.frame_room.specs.Room.{frameFits}
-use Rattle.two_frames.specs.declared.TwoLengths.{TwoLengths}
+use Rattle.two_frames.specs.declared.TwoSizes.{TwoSizes}
 pub mod Laws
 
 unfoldable pub twoFit : ℕ → ℕ → ℕ → ℕ → ℕ → Bool
 twoFit n kind next count room = and (frameFits n kind count room) (frameFits n next count (room - lengthOf kind n))
 
-unfoldable pub twoLengths : ℕ → ℕ → ℕ → ℕ → ℕ → TwoLengths
-twoLengths n kind next count room =
+unfoldable pub twoSizes : ℕ → ℕ → ℕ → ℕ → ℕ → TwoSizes
+twoSizes n kind next count room =
     choose (twoFit n kind next count room)
-    (record { front = lengthOf kind n; next = lengthOf next n })
-    (record { front = 0; next = 0 })
+    (record { front = sizeOf (lengthOf kind n); next = sizeOf (lengthOf next n) })
+    (record { front = sizeOf 0; next = sizeOf 0 })
 
 unfoldable pub twoOutput : ℕ → ℕ → ℕ → List ℕ → List ℕ → List ℕ
 twoOutput n kind next ids output =

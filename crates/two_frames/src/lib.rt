@@ -1,15 +1,17 @@
 // Two frames of the same identifiers, one after the other, at the front of an output. What stands past them in the output stays as it was.
 use frame::kind::length_of;
+use frame::size::FrameSize;
+use frame::size::frame_size;
 use frame_room::frame_fits;
 use framing::put;
 ghost use mathlib.Core.Path.{_≡_};
 ghost use lib.ListN.{length};
-ghost use Rattle.two_frames.specs.TwoFrames.{twoFit, twoLengths, twoOutput};
+ghost use Rattle.two_frames.specs.TwoFrames.{twoFit, twoSizes, twoOutput};
 
-// The lengths of two frames, one after the other.
-pub struct TwoLengths {
-    pub front: usize,
-    pub next: usize,
+// The sizes of two frames, one after the other.
+pub struct TwoSizes {
+    pub front: FrameSize,
+    pub next: FrameSize,
 }
 
 fn two_fit(kind: u8, next: u8, n: u8, count: usize, room: usize) -> bool
@@ -23,14 +25,19 @@ fn two_fit(kind: u8, next: u8, n: u8, count: usize, room: usize) -> bool
 
 // Two frames of the same identifiers, where both are as `put` asks and the output has the room for both; the second goes into the rest of
 // the output.
-pub fn put_two(kind: u8, next: u8, n: u8, ids: &[u32], out: &mut [u8]) -> TwoLengths
-    ensures { λ r. ⌜ (r ≡ twoLengths n kind next (length (now (ids .entry))) (length (now (out .entry))))
+pub fn put_two(kind: u8, next: u8, n: u8, ids: &[u32], out: &mut [u8]) -> TwoSizes
+    ensures { λ r. ⌜ (r ≡ twoSizes n kind next (length (now (ids .entry))) (length (now (out .entry))))
         × (now (out .exit) ≡ twoOutput n kind next (now (ids .entry)) (now (out .entry))) ⌝ }
 {
     if !two_fit(kind, next, n, ids.len(), out.len()) {
-        return TwoLengths { front: 0, next: 0 };
+        let none = frame_size(0);
+        return TwoSizes {
+            front: none,
+            next: none,
+        };
     }
     let front = put(kind, n, ids, out);
-    let back = put(next, n, ids, &mut out[front..]);
-    TwoLengths { front, next: back }
+    let behind = front.length;
+    let back = put(next, n, ids, &mut out[behind..]);
+    TwoSizes { front, next: back }
 }

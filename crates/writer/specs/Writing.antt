@@ -4,12 +4,13 @@ use Prim.Native.Nat.{ℕ}
 use lib.Dec.{eqb, ltb}
 use lib.ListN.{length}
 use Rattle.lists.specs.Choice.{choose, first}
+use Rattle.frame.specs.Slots.{sizeOf}
 use Rattle.frame.specs.Message.{lengthOf}
 use Rattle.frame.specs.Encoding.{frameOf, over}
 use Rattle.frame.specs.Reading.{kindRefusal, listRefusal}
 use Rattle.limits.specs.Refusals.{netRefusal}
 use Rattle.writer.specs.declared.Written.{Written}
-use Rattle.writer.specs.declared.Written.the-variants.{Length, Refused}
+use Rattle.writer.specs.declared.Written.the-variants.{Frame, Refused}
 pub mod Laws
 pub mod Theorems
 
@@ -28,7 +29,7 @@ writeRefusal n kind ids room =
 unfoldable pub writtenOf : ℕ → ℕ → List ℕ → ℕ → Written
 writtenOf n kind ids room =
     choose (eqb (writeRefusal n kind ids room) 0)
-    (Length (lengthOf kind n))
+    (Frame (sizeOf (lengthOf kind n)))
     (Refused (writeRefusal n kind ids room))
 
 unfoldable pub writeOutput : ℕ → ℕ → List ℕ → List ℕ → List ℕ

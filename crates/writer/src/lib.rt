@@ -2,6 +2,7 @@
 // was.
 use frame::kind::kind_refusal;
 use frame::kind::length_of;
+use frame::size::FrameSize;
 use framing::put;
 use limits::net_refusal;
 use limits::refusal;
@@ -10,9 +11,9 @@ ghost use mathlib.Core.Path.{_≡_};
 ghost use lib.ListN.{length};
 ghost use Rattle.writer.specs.Writing.{writeRefusal, writtenOf, writeOutput};
 
-// What a write answers: the frame's length, or the number by which it is turned down.
+// What a write answers: the frame's size, or the number by which it is turned down.
 pub enum Written {
-    Length(usize),
+    Frame(FrameSize),
     Refused(u8),
 }
 
@@ -42,5 +43,5 @@ pub fn write(n: usize, kind: u8, ids: &[u32], out: &mut [u8]) -> Written
     if refusal != 0 {
         return Written::Refused(refusal);
     }
-    Written::Length(put(kind, n as u8, ids, out))
+    Written::Frame(put(kind, n as u8, ids, out))
 }

@@ -1,9 +1,11 @@
-//! One thing to try: a call with all that it takes, a schedule, or a whole history. Running it compares an engine with the model.
+//! One thing to try: a call with all that it takes, a schedule, the life of one base, or a whole history. Running it compares an engine
+//! with the model.
 
 use crate::compared::Compared;
 use crate::demand;
 use crate::engine::{Answer, Engine, Reading};
 use crate::faults::Fault;
+use crate::life::Life;
 use crate::limits::{LONGEST_SCHEDULE, REPORT_ROOM};
 use crate::net::{History, Net};
 use crate::reach::Reach;
@@ -24,6 +26,7 @@ pub enum Case {
     FaultyCount { n: usize, t: usize, expect: Option<Number> },
     FaultySet { n: usize, t: usize, number: usize, expect: Option<Number> },
     FaultyText { schedule: Vec<u8>, out: Vec<u8>, expect: Option<String> },
+    Life(Life),
     History(History),
 }
 
@@ -40,6 +43,7 @@ impl Case {
             Case::FaultyCount { .. } => "faulty sets counted",
             Case::FaultySet { .. } => "faulty sets by number",
             Case::FaultyText { .. } => "faulty sets printed",
+            Case::Life(_) => "lives of one base",
             Case::History(_) => "histories",
         }
     }
@@ -75,6 +79,7 @@ impl Case {
             Case::FaultyCount { n, t, expect } => run_faulty_count(&mut both, *n, *t, *expect),
             Case::FaultySet { n, t, number, expect } => run_faulty_set(&mut both, (*n, *t, *number), *expect),
             Case::FaultyText { schedule, out, expect } => run_faulty_text(&mut both, schedule, out, expect.as_deref()),
+            Case::Life(life) => run_life(&mut both, life, reach),
             Case::History(history) => run_history(&mut both, history, reach),
         }
         both.difference
@@ -124,7 +129,14 @@ fn run_faulty_text(both: &mut Compared, schedule: &[u8], out: &[u8], expect: Opt
     expected_text(both, expect, &out[..length]);
 }
 
-/// Every event on both, demand 3 after each, then the same history as a schedule.
+/// Every call on both, and the slots of the life after each.
+fn run_life(both: &mut Compared, life: &Life, reach: &mut Reach) {
+    let (spent, broken) = life.live(both);
+    reach.observe_life(life.n, spent);
+    hold(both, "the slots of a life are broken", broken);
+}
+
+/// Every event on both, demand 3 and the slots of each base's life where a base stops and at the end, then the same history as a schedule.
 fn run_history(both: &mut Compared, history: &History, reach: &mut Reach) {
     let truth = history.setting.truth();
     let mut net = Net::new(history.setting.clone(), both, Fault::None);
@@ -143,10 +155,12 @@ fn run_history(both: &mut Compared, history: &History, reach: &mut Reach) {
         }
         if net.records[at - 1].state >= 2 && before.state < 2 {
             both.leader(&net.records[at - 1]);
-            hold_to_demand(both, demand::broken(&net));
+            hold_net(both, &net);
         }
     }
-    hold_to_demand(both, demand::broken(&net).or_else(|| demand::unreadable(&net)));
+    hold_net(both, &net);
+    hold(both, "demand 3 is broken", demand::unreadable(&net));
+    net.spent.iter().for_each(|&spent| reach.observe_life(net.setting.n(), spent));
     if net.waiting() == 0 && (1..=net.setting.n()).all(|b| net.stopped(b)) {
         reach.add("all stopped, nothing waits");
     }
@@ -156,8 +170,13 @@ fn run_history(both: &mut Compared, history: &History, reach: &mut Reach) {
     }
 }
 
-fn hold_to_demand(both: &mut Compared, broken: Option<String>) {
+fn hold_net(both: &mut Compared, net: &Net) {
+    hold(both, "demand 3 is broken", demand::broken(net));
+    hold(both, "the slots of a life are broken", demand::overspent(net));
+}
+
+fn hold(both: &mut Compared, demand: &str, broken: Option<String>) {
     if let Some(what) = broken {
-        both.note(format!("demand 3 is broken: {what}"));
+        both.note(format!("{demand}: {what}"));
     }
 }

@@ -1,7 +1,7 @@
 //! An engine held against the model: every call is made on both, the engine under test on guarded copies, and record, output, answer and
 //! guards are compared. What goes on is the model's.
 
-use crate::engine::{Answer, Engine, Leader, Reading};
+use crate::engine::{Answer, Engine, Leader, Reading, Written};
 use crate::faulty::RawSet;
 use crate::guard::{Fenced, FencedRecord};
 use crate::model::Model;
@@ -131,15 +131,15 @@ impl Engine for Compared<'_> {
         reading
     }
 
-    fn write(&mut self, n: usize, kind: u8, ids: &[u32], out: &mut [u8]) -> Result<usize, Number> {
+    fn write(&mut self, n: usize, kind: u8, ids: &[u32], out: &mut [u8]) -> Result<Written, Number> {
         self.calls += 1;
         let (mut their_out, lent) = (Fenced::new(out), ids.to_vec());
-        let their_length = self.other.write(n, kind, &lent, their_out.bytes_mut());
-        let length = self.truth.write(n, kind, ids, out);
+        let their_answer = self.other.write(n, kind, &lent, their_out.bytes_mut());
+        let answer = self.truth.write(n, kind, ids, out);
         self.same("write", "list", ids, &lent);
-        self.same("write", "answer", length, their_length);
+        self.same("write", "answer", answer, their_answer);
         self.same_output("write", out, &their_out);
-        length
+        answer
     }
 
     fn replay(&mut self, schedule: &[u8], out: &mut [u8]) -> usize {

@@ -1,5 +1,6 @@
-//! Demand 3 itself, held against a net after a history.
+//! Demand 3 itself, held against a net after a history; and the slots of each base's life.
 
+use crate::airtime;
 use crate::engine::{Engine, Leader};
 use crate::faults::Fault;
 use crate::message::Message;
@@ -38,6 +39,12 @@ pub fn broken(net: &Net) -> Option<String> {
         Some(b) if quiet => Some(format!("every base has been started and nothing waits, but base {b} runs on")),
         _ => None,
     }
+}
+
+/// What of the slots of a base's life does not hold, if anything.
+pub fn overspent(net: &Net) -> Option<String> {
+    let of_base = |b: usize| airtime::broken(net.setting.n(), &net.logs[b - 1], net.spent[b - 1]).map(|what| format!("base {b}: {what}"));
+    (1..=net.setting.n()).find_map(of_base)
 }
 
 /// Every frame that was broadcast is read back as the message that was sent: it is the frame of what is read.

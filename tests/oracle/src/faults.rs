@@ -6,7 +6,7 @@ macro_rules! faults {
     ($($name:ident: $says:literal,)*) => {
         #[derive(Clone, Copy, Debug, PartialEq, Eq)]
         pub enum Fault {
-            /// The model as document 01 has it, and document 02's first request.
+            /// The model as document 01 has it, and document 02's first two requests.
             None,
             /// A rule of soundness is not looked at.
             RuleSkipped(Rule),
@@ -134,6 +134,17 @@ faults! {
     NetLineUnended: "a net's line may lack its line feed",
     ShortOutputWritten: "the sets are printed into an output that is too short",
     OutputPastLinesTouched: "a byte of the output past the sets' lines is changed",
+    SlotsRoundedDown: "slots are rounded down",
+    OwnVerifyRelayed: "a Verify of the own identifier counts as relayed",
+    CorrectFinalRelayed: "a Correct-Final counts as relayed",
+    VerifyFinalOwn: "a Verify-Final counts as own",
+    DiscardedStartWithoutSlots: "a discarded arrival at an idle base has no slots",
+    RefusedCallHasSlots: "a refused call has slots",
+    OwnSumTwice: "the own slots are given as the relayed ones too",
+    RelayedSumTwice: "the relayed slots are given as the own ones too",
+    SlotsForEachLink: "a frame's slots are counted once for each link",
+    WrittenSlotsLost: "a written frame has no slots",
+    RefusedWriteHasSlots: "a frame that is not written has slots",
 }
 
 impl Fault {

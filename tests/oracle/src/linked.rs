@@ -1,6 +1,6 @@
 //! The proved engine, linked in as a C static library and called as any Rust program calls it: by include/roster.rs.
 
-use crate::engine::{Answer, Engine, Leader, Reading};
+use crate::engine::{Answer, Engine, Leader, Reading, Written, NO_ANSWER};
 use crate::faulty::RawSet;
 use crate::limits::MOST_BASES;
 use crate::reader::Number;
@@ -9,19 +9,6 @@ use crate::refusal;
 use crate::roster;
 
 pub struct Linked;
-
-/// Stands for an answer that the interface does not have, so that it shows as a difference.
-const NO_ANSWER: Number = Number::MAX;
-
-fn answer(answer: roster::Answer) -> Answer {
-    let lengths = [answer.first, answer.second, answer.third];
-    match (answer.outcome, answer.refusal, lengths) {
-        (roster::ACCEPTED, 0, lengths) => Answer::Accepted(lengths),
-        (roster::DISCARDED, 0, lengths) => Answer::Discarded(lengths),
-        (roster::REFUSED, number @ 1..=12, [0, 0, 0]) => Answer::Refused(number),
-        _ => Answer::Refused(NO_ANSWER),
-    }
-}
 
 /// The identifiers of a body, high byte first, zeros behind.
 fn identifiers(burst: &[u8], start: usize, count: usize) -> [u32; MOST_BASES] {
@@ -48,11 +35,11 @@ impl Engine for Linked {
     }
 
     fn start(&mut self, record: &mut RawBase, out: &mut [u8]) -> Answer {
-        answer(roster::start(record, out))
+        Answer::of(roster::start(record, out))
     }
 
     fn arrive(&mut self, record: &mut RawBase, link: usize, burst: &[u8], out: &mut [u8]) -> Answer {
-        answer(roster::arrive(record, link, burst, out))
+        Answer::of(roster::arrive(record, link, burst, out))
     }
 
     fn leader(&mut self, record: &RawBase) -> Leader {
@@ -78,13 +65,8 @@ impl Engine for Linked {
         }
     }
 
-    fn write(&mut self, n: usize, kind: u8, ids: &[u32], out: &mut [u8]) -> Result<usize, Number> {
-        let put = roster::write(n, kind, ids, out);
-        match (put.refusal, put.length) {
-            (0, length) => Ok(length),
-            (number @ 1..=12, 0) => Err(number),
-            _ => Err(NO_ANSWER),
-        }
+    fn write(&mut self, n: usize, kind: u8, ids: &[u32], out: &mut [u8]) -> Result<Written, Number> {
+        Written::of(roster::write(n, kind, ids, out))
     }
 
     fn replay(&mut self, schedule: &[u8], out: &mut [u8]) -> usize {

@@ -3,14 +3,15 @@
 use oracle::engine::Engine;
 use oracle::faults::Fault;
 use oracle::model::Model;
+use oracle::net::History;
 use oracle::schedule::render;
-use oracle::{bench, listed, replay, runner, starred, stored, trace, twelve};
+use oracle::{bench, listed, replay, runner, sixteen, starred, stored, trace, twelve};
 use std::io::Read;
 use std::process::ExitCode;
 
 const USAGE: &str =
     "usage: oracle [seconds] [seed] | faults [name] | starred | stored folder | trace program folder | listed program | bench
-       oracle replay < schedule | twelve";
+       oracle replay < schedule | twelve | airtime";
 
 /// Schedules that are made for the trace program, beside the stored ones.
 const MADE_FOR_THE_TRACE: usize = 300;
@@ -38,7 +39,8 @@ fn main() -> ExitCode {
         ["listed", program] => listed::run(program),
         ["bench"] => bench::run(cfg!(feature = "linked").then_some(engine().as_mut())),
         ["replay"] => replay_input(),
-        ["twelve"] => print_twelve(),
+        ["twelve"] => print_schedule(&twelve::history(Fault::None).0),
+        ["airtime"] => print_schedule(&sixteen::history().0),
         [] => run("20", "1"),
         [seconds] => run(seconds, "1"),
         [seconds, seed] => run(seconds, seed),
@@ -75,8 +77,7 @@ fn replay_input() -> bool {
     true
 }
 
-/// The twelve-base history of reading (c), as a schedule.
-fn print_twelve() -> bool {
-    print!("{}", render(&twelve::history(Fault::None).0));
+fn print_schedule(history: &History) -> bool {
+    print!("{}", render(history));
     true
 }

@@ -25,6 +25,12 @@ impl Kind {
         [Kind::Announce, Kind::Verify, Kind::CorrectFinal, Kind::VerifyFinal].into_iter().find(|&kind| kind as u8 == byte)
     }
 
+    /// By a frame's bytes: "then a trailer of four bytes: kind (1 byte)".
+    pub fn of_frame(frame: &[u8]) -> Option<Kind> {
+        let &[.., kind, _, _, _] = frame else { return None };
+        Kind::of(kind)
+    }
+
     /// "Kinds 1 and 2 hold one identifier; 3 and 4 hold n".
     pub fn count(self, n: usize) -> usize {
         match self {

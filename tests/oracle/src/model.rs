@@ -1,7 +1,8 @@
 //! The second implementation behind the calls that are compared: admits the raw record, takes the step, and stores what came of it.
 
+use crate::airtime::Airtime;
 use crate::base::Base;
-use crate::engine::{Answer, Engine, Leader, Reading};
+use crate::engine::{Answer, Engine, Leader, Reading, Sent, Written};
 use crate::faults::Fault;
 use crate::faulty::{self, RawSet};
 use crate::limits::{FAULTY_TEXT_ROOM, OUTPUT_ROOM, REPORT_ROOM};
@@ -10,6 +11,7 @@ use crate::reader::{read, Number};
 use crate::record::RawBase;
 use crate::refusal;
 use crate::replay;
+use crate::roster;
 use crate::steps::Turn;
 use crate::writer;
 
@@ -35,7 +37,7 @@ impl Model {
         self.room(out)?;
         let turn = base.start();
         *record = base.raw();
-        Ok(self.answer(turn, out))
+        Ok(self.answer(&base, turn, out))
     }
 
     /// Refusals 1 to 12.
@@ -61,7 +63,7 @@ impl Model {
         };
         let turn = base.arrive(link - 1, frame.message);
         *record = base.raw();
-        Ok(self.answer(turn, out))
+        Ok(self.answer(&base, turn, out))
     }
 
     /// "5. The link number is not 1 to n − 1."
@@ -76,25 +78,38 @@ impl Model {
         }
     }
 
-    /// "A call broadcasts at most three frames, one after another in the output".
-    fn answer(&self, turn: Turn, out: &mut [u8]) -> Answer {
-        let mut lengths = [0; 3];
+    /// "A call broadcasts at most three frames, one after another in the output". Their slots are those of the bytes that stand there.
+    fn answer(&self, base: &Base, turn: Turn, out: &mut [u8]) -> Answer {
+        let (mut lengths, mut airtime) = ([0; 3], Airtime::default());
         let mut at = 0;
         for (length, message) in lengths.iter_mut().zip(&turn.broadcast) {
             let frame = Message::frame_with(message, self.fault);
             let end = (at + frame.len()).min(out.len());
             out[at..end].copy_from_slice(&frame[..end - at]);
             *length = frame.len();
+            airtime += Airtime::of(&out[at..end], base);
             at = end + usize::from(self.fault == Fault::FramesLeaveAGap && end < out.len());
         }
         if self.fault == Fault::OutputPastFramesTouched && at < out.len() {
             out[at] ^= 0xff;
         }
+        let sent = Sent { lengths, airtime: airtime.answered(turn.discarded.is_some(), self.fault) };
         if turn.discarded.is_none() || self.fault == Fault::DiscardedAnsweredAccepted {
-            Answer::Accepted(lengths)
+            Answer::Accepted(sent)
         } else {
-            Answer::Discarded(lengths)
+            Answer::Discarded(sent)
         }
+    }
+
+    /// "A refused call has none (zero in C)": taken apart as the library's answer is, so that slots beside a number show.
+    fn refused(&self, number: Number) -> Answer {
+        let own = usize::from(self.fault == Fault::RefusedCallHasSlots);
+        Answer::of(roster::Answer { outcome: roster::REFUSED, refusal: number, first: 0, second: 0, third: 0, own, relayed: 0 })
+    }
+
+    fn refused_write(&self, number: Number) -> Result<Written, Number> {
+        let slots = usize::from(self.fault == Fault::RefusedWriteHasSlots);
+        Written::of(roster::Put { refusal: number, length: 0, slots })
     }
 
     /// "The leader is the largest identifier of the final list." Refusals 1 to 4.
@@ -136,7 +151,7 @@ impl Engine for Model {
     }
 
     fn start(&mut self, record: &mut RawBase, out: &mut [u8]) -> Answer {
-        self.try_start(record, out).unwrap_or_else(Answer::Refused)
+        self.try_start(record, out).unwrap_or_else(|number| self.refused(number))
     }
 
     fn arrive(&mut self, record: &mut RawBase, link: usize, burst: &[u8], out: &mut [u8]) -> Answer {
@@ -144,7 +159,7 @@ impl Engine for Model {
             if self.fault == Fault::RefusedCallWrites {
                 out.iter_mut().take(8).for_each(|byte| *byte = number);
             }
-            Answer::Refused(number)
+            self.refused(number)
         })
     }
 
@@ -159,8 +174,8 @@ impl Engine for Model {
         }
     }
 
-    fn write(&mut self, n: usize, kind: u8, ids: &[u32], out: &mut [u8]) -> Result<usize, Number> {
-        writer::write(n, kind, ids, out, self.fault)
+    fn write(&mut self, n: usize, kind: u8, ids: &[u32], out: &mut [u8]) -> Result<Written, Number> {
+        writer::write(n, kind, ids, out, self.fault).or_else(|number| self.refused_write(number))
     }
 
     fn replay(&mut self, schedule: &[u8], out: &mut [u8]) -> usize {

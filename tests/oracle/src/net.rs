@@ -1,6 +1,7 @@
 //! "The net over a whole history": one record a base, each base's broadcasts, the carries made, and what an event does to them.
 //! The calls are an engine's, so that the same net runs on the model and on the proved engine.
 
+use crate::airtime::Airtime;
 use crate::engine::{Answer, Engine};
 use crate::faults::Fault;
 use crate::limits::{link_to, OUTPUT_ROOM};
@@ -72,6 +73,8 @@ pub struct Net {
     pub records: Vec<RawBase>,
     /// Each base's broadcasts in the order written.
     pub logs: Vec<Vec<Vec<u8>>>,
+    /// The slots that the answers of each base's calls have, added up.
+    pub spent: Vec<Airtime>,
     /// Carries made: sender, receiver, number of the broadcast.
     pub carried: BTreeSet<(usize, usize, usize)>,
     /// "A base is started by its first start or arrival that is not turned down."
@@ -87,7 +90,8 @@ impl Net {
         for (record, &own) in records.iter_mut().zip(&setting.ids) {
             engine.idle(n, setting.t, own, record);
         }
-        Net { setting, records, logs: vec![Vec::new(); n], carried: BTreeSet::new(), started: vec![false; n], fault }
+        let (logs, spent, started) = (vec![Vec::new(); n], vec![Airtime::default(); n], vec![false; n]);
+        Net { setting, records, logs, spent, carried: BTreeSet::new(), started, fault }
     }
 
     /// The number by which 16 to 18 turn the event down, if they do.
@@ -117,28 +121,32 @@ impl Net {
             return Answer::Refused(number);
         }
         let mut out = vec![0xa5; room];
-        let (at, answer) = match event {
-            Event::Start { at } => (*at, engine.start(&mut self.records[at - 1], &mut out)),
-            Event::Carry { from, to, k } => {
-                let link = self.link(*from, *to);
-                (*to, engine.arrive(&mut self.records[to - 1], link, &self.logs[from - 1][k - 1], &mut out))
-            }
-            Event::Forge { from, to, bytes } => {
-                let link = self.link(*from, *to);
-                (*to, engine.arrive(&mut self.records[to - 1], link, bytes, &mut out))
-            }
-        };
+        let place = event.receiver() - 1;
+        let mut record = self.records[place];
+        let answer = self.call(event, &mut record, &mut out, engine);
+        self.records[place] = record;
         if matches!(answer, Answer::Refused(_)) {
             return answer;
         }
-        self.started[at - 1] = true;
+        self.started[place] = true;
         if let Event::Carry { from, to, k } = *event {
             if self.fault != Fault::WaitingForgetsDiscards || matches!(answer, Answer::Accepted(_)) {
                 self.carried.insert((from, to, k));
             }
         }
-        self.log(at, &out, answer.lengths());
+        // "Frames written join b's broadcasts in their order".
+        self.logs[place].extend(answer.sent().frames(&out));
+        self.spent[place] += answer.sent().airtime;
         answer
+    }
+
+    /// The call of an event that 16 to 18 do not turn down, on a record of its base.
+    pub fn call(&self, event: &Event, record: &mut RawBase, out: &mut [u8], engine: &mut dyn Engine) -> Answer {
+        match event {
+            Event::Start { .. } => engine.start(record, out),
+            Event::Carry { from, to, k } => engine.arrive(record, self.link(*from, *to), &self.logs[from - 1][k - 1], out),
+            Event::Forge { from, to, bytes } => engine.arrive(record, self.link(*from, *to), bytes, out),
+        }
     }
 
     fn link(&self, from: usize, to: usize) -> usize {
@@ -148,19 +156,9 @@ impl Net {
         }
     }
 
-    /// "Frames written join b's broadcasts in their order".
-    fn log(&mut self, at: usize, out: &[u8], lengths: [usize; 3]) {
-        let mut rest = out;
-        for length in lengths.into_iter().filter(|&length| length > 0) {
-            let (frame, behind) = rest.split_at(length.min(rest.len()));
-            self.logs[at - 1].push(frame.to_vec());
-            rest = behind;
-        }
-    }
-
     /// "It has stopped once it has broadcast a Correct-Final".
     pub fn stopped(&self, b: usize) -> bool {
-        self.logs[b - 1].iter().any(|frame| frame.len() >= 4 && frame[frame.len() - 4] == Kind::CorrectFinal as u8)
+        self.logs[b - 1].iter().any(|frame| Kind::of_frame(frame) == Some(Kind::CorrectFinal))
     }
 
     /// Every broadcast and receiver on a good link with no carry yet: sender, receiver, number.

@@ -1,7 +1,7 @@
 //! What a run tries: first every small thing once, then cases of all kinds in turn, as long as it is let.
 
 use crate::case::Case;
-use crate::generate::{arrivals, bursts, faulty, forms, histories, refusals, schedules, unsound};
+use crate::generate::{arrivals, bursts, faulty, forms, histories, lives, refusals, schedules, unsound};
 use crate::rng::Rng;
 use crate::soundness::Rule;
 
@@ -23,7 +23,7 @@ pub fn sweep(rng: &mut Rng) -> Vec<Case> {
     cases
 }
 
-/// The case at a place of the endless row: one history to 50 calls.
+/// The case at a place of the endless row: one history to two lives and 50 calls.
 pub fn at(seed: u64, place: u64) -> Case {
     let mut rng = Rng::new(seed ^ place.wrapping_mul(0xd134_2543_de82_ef95));
     let rng = &mut rng;
@@ -46,6 +46,7 @@ pub fn at(seed: u64, place: u64) -> Case {
             refusals::others(rng, &rng.clone().pick(&all).clone())
         }
         32 => faulty::call(rng),
+        33 | 34 => Case::Life(lives::life(rng)),
         _ => arrivals::call(rng),
     }
 }

@@ -1,14 +1,18 @@
-//! How often a history came to the states that matter: ends, and figures next to a threshold.
+//! How often a history came to the states that matter: ends, and figures next to a threshold; and the most slots of a base's life.
 
+use crate::airtime::{reachable, Airtime};
 use crate::base::{Base, State, Vote};
 use crate::engine::Answer;
 use crate::faults::Fault;
+use crate::limits::{FEWEST_BASES, MOST_BASES};
 use crate::record::RawBase;
 use std::collections::BTreeMap;
 
 #[derive(Clone, Debug, Default)]
 pub struct Reach {
     counts: BTreeMap<&'static str, u64>,
+    /// Of each n, the most slots of a base's life, and how many lives took so many.
+    slots: BTreeMap<usize, (usize, u64)>,
 }
 
 /// Every state that is counted, so that one never reached shows as 0.
@@ -42,9 +46,29 @@ impl Reach {
         self.counts.get(state).copied().unwrap_or(0)
     }
 
-    /// The states that a run of `SECONDS` should have come to more often.
-    pub fn missed(&self) -> Vec<&'static str> {
-        STATES.into_iter().filter(|state| self.count(state) < LEAST).collect()
+    /// The most slots of the life of a base of n, and how many lives took so many.
+    pub fn most_slots(&self, n: usize) -> (usize, u64) {
+        self.slots.get(&n).copied().unwrap_or_default()
+    }
+
+    /// The states that a run of `SECONDS` should have come to more often, and the lives that take as many slots as can be.
+    pub fn missed(&self) -> Vec<String> {
+        let states = STATES.into_iter().filter(|state| self.count(state) < LEAST).map(str::to_string);
+        let seldom = |&n: &usize| {
+            let (most, lives) = self.most_slots(n);
+            most < reachable(n) || lives < LEAST
+        };
+        let lives = (FEWEST_BASES..=MOST_BASES).filter(seldom).map(|n| format!("a life of {} slots, n = {n}", reachable(n)));
+        states.chain(lives).collect()
+    }
+
+    /// What a base of n has taken in its life.
+    pub fn observe_life(&mut self, n: usize, spent: Airtime) {
+        let (most, lives) = self.slots.entry(n).or_default();
+        if spent.together() > *most {
+            (*most, *lives) = (spent.together(), 0);
+        }
+        *lives += u64::from(spent.together() == *most);
     }
 
     pub fn add(&mut self, state: &'static str) {
@@ -119,5 +143,23 @@ impl Reach {
             let true_list = base.correct_finals(truth) >= 2;
             self.add_if(!true_list, "false Verify-Final sent");
         }
+    }
+}
+
+#[cfg(test)]
+mod tests {
+    use super::*;
+    use crate::airtime::most;
+
+    #[test]
+    fn lives_of_the_most_slots_are_asked_for() {
+        let mut reach = Reach::default();
+        let asked = |reach: &Reach| reach.missed().iter().filter(|what| what.contains("slots")).count();
+        assert_eq!(asked(&reach), 15);
+        (0..LEAST).for_each(|_| reach.observe_life(15, Airtime { own: 2, relayed: 0 }));
+        (1..LEAST).for_each(|_| reach.observe_life(16, most(16)));
+        assert_eq!((asked(&reach), reach.most_slots(16)), (15, (35, LEAST - 1)));
+        reach.observe_life(16, most(16));
+        assert_eq!(asked(&reach), 14);
     }
 }

@@ -1,8 +1,10 @@
 //! Runs cases against an engine, counts what was tried, and tells a difference as short as it can be told.
 
+use crate::airtime;
 use crate::case::Case;
 use crate::engine::Engine;
 use crate::faults::Fault;
+use crate::limits::{FEWEST_BASES, MOST_BASES};
 use crate::model::Model;
 use crate::plan;
 use crate::reach::{Reach, LEAST, SECONDS, STATES};
@@ -43,6 +45,11 @@ impl Tried {
         println!("states reached in histories:");
         for state in STATES {
             println!("  {:>10}  {state}", self.reach.count(state));
+        }
+        println!("most slots of a base's life:");
+        for n in FEWEST_BASES..=MOST_BASES {
+            let (most, lives) = self.reach.most_slots(n);
+            println!("  {most:>10}  of at most {}, n = {n}, in {lives} lives", airtime::most(n).together());
         }
     }
 }
@@ -154,7 +161,7 @@ pub fn faults(seed: u64, only: Option<&str>) -> bool {
         let cases = made.iter().cloned().chain(row(seed, common as u64));
         match search(&mut engine, cases, Duration::from_secs(20), &mut tried, false) {
             Some((case, what)) => {
-                let what: String = what.chars().take(90).collect();
+                let what: String = what.chars().take(110).collect();
                 println!(
                     "caught {:<34} {:>6} cases {:>5} ms  {}: {what}",
                     fault.name(),

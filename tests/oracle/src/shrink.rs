@@ -2,6 +2,7 @@
 
 use crate::case::Case;
 use crate::engine::Engine;
+use crate::life::Life;
 use crate::limits::{LIST_ROOM, MOST_BASES};
 use crate::net::{Event, History};
 use crate::reach::Reach;
@@ -49,6 +50,10 @@ pub fn shrink(case: &Case, engine: &mut dyn Engine) -> Case {
             let make = |events: &[_]| Case::History(History { setting: history.setting.clone(), events: events.to_vec() });
             let events = without_whole_links(history, |events| differs(&make(events)));
             make(&shortest(events, until, |events| differs(&make(events))))
+        }
+        Case::Life(life) => {
+            let make = |calls: &[_]| Case::Life(Life { calls: calls.to_vec(), ..life.clone() });
+            make(&shortest(life.calls.clone(), until, |calls| differs(&make(calls))))
         }
         Case::Replay { schedule, out, .. } => {
             let make = |schedule: Vec<u8>| Case::Replay { schedule, out: out.clone(), expect: None };

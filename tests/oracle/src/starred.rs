@@ -1,13 +1,17 @@
-//! Document 01's starred cases, its slips and its worked example, each as calls from an idle record with a stored expectation.
+//! Document 01's starred cases, its slips and its worked example, each as calls from an idle record with a stored expectation; and the two
+//! stored histories of twelve and of sixteen bases.
 
+use crate::airtime::Airtime;
 use crate::base::Base;
 use crate::checks::PrimeFigures;
-use crate::engine::{Answer, Engine};
+use crate::engine::{Answer, Engine, Sent};
 use crate::faults::Fault;
 use crate::limits::{most_faulty, OUTPUT_ROOM, REPORT_ROOM};
 use crate::message::Message;
+use crate::net::{History, Net};
 use crate::record::RawBase;
 use crate::schedule::render;
+use crate::sixteen;
 use crate::twelve;
 use Message::{Announce, CorrectFinal, Verify, VerifyFinal};
 
@@ -35,8 +39,8 @@ pub const WORKED_EXAMPLE: &str =
     "net 2 0\nid 1 500\nid 2 300\nstart 1\nstart 2\ncarry 1 2 1\ncarry 1 2 2\ncarry 2 1 1\ncarry 2 1 2\ncarry 2 1 3\ncarry 1 2 3\n";
 pub const WORKED_REPORT: &str = "base 1 prime 300 500 leader 500\nbase 2 prime 300 500 leader 500\nwaiting 2\n";
 
-const RUNS_ON: Answer = Answer::Accepted([0; 3]);
-const DISCARDED: Answer = Answer::Discarded([0; 3]);
+const RUNS_ON: Answer = Answer::Accepted(Sent::NOTHING);
+const DISCARDED: Answer = Answer::Discarded(Sent::NOTHING);
 
 /// The true list at n bases.
 fn v(n: usize) -> Vec<u32> {
@@ -83,7 +87,7 @@ pub fn cases() -> Vec<Starred> {
 }
 
 fn prime_cases() -> Vec<Starred> {
-    let prime = Answer::Accepted([20, 0, 0]);
+    let prime = Answer::Accepted(Sent::new([20, 0, 0], 3, 0));
     vec![
         prime_case("both Verifies of one pair missing: prime", &[(1, 30), (2, 20)], prime, 14, 1),
         prime_case("one Verify missing in each of two pairs: runs on", &[(1, 30), (2, 40)], RUNS_ON, 14, 2),
@@ -99,19 +103,20 @@ fn vote_cases() -> Vec<Starred> {
     let correct = |link, n| (link, CorrectFinal(v(n)));
     let verify = |link, n| (link, VerifyFinal(v(n)));
     let other = |link, n| (link, VerifyFinal(u(n)));
-    let (one, two) = (Answer::Accepted([28, 0, 0]), Answer::Accepted([20, 20, 0]));
+    let (votes, stops) = (Answer::Accepted(Sent::new([28, 0, 0], 0, 4)), Answer::Accepted(Sent::new([28, 0, 0], 4, 0)));
+    let both = Answer::Accepted(Sent::new([20, 20, 0], 3, 3));
     let mut falls = vote_case("Correct-Final V over Verify-Final U: U's tally falls", 4, vec![other(1, 4), other(2, 4)], RUNS_ON, (1, 1));
     falls.arrivals.push(correct(1, 4));
     falls.before.push(Figure::ListTally(u(4), 2));
     falls.figures.push(Figure::ListTally(u(4), 1));
     vec![
-        vote_case("two Correct-Final V: secondary", 4, vec![correct(1, 4), correct(2, 4)], two, (3, 2)),
+        vote_case("two Correct-Final V: secondary", 4, vec![correct(1, 4), correct(2, 4)], both, (3, 2)),
         vote_case("one and a Verify-Final V: runs on", 4, vec![correct(1, 4), verify(2, 4)], RUNS_ON, (1, 2)),
         vote_case("a Verify-Final V and one: runs on", 4, vec![verify(2, 4), correct(1, 4)], RUNS_ON, (1, 2)),
-        vote_case("n = 6, t = 2: two Correct-Final V run on", 6, vec![correct(1, 6), correct(2, 6)], one, (1, 2)),
-        vote_case("the same and a Verify-Final V: secondary", 6, vec![correct(1, 6), correct(2, 6), verify(3, 6)], one, (3, 3)),
-        vote_case("both vector messages of a link count once", 6, vec![verify(1, 6), correct(1, 6), correct(2, 6)], one, (1, 2)),
-        vote_case("the same, its own last: count once", 6, vec![correct(2, 6), verify(1, 6), correct(1, 6)], one, (1, 2)),
+        vote_case("n = 6, t = 2: two Correct-Final V run on", 6, vec![correct(1, 6), correct(2, 6)], votes, (1, 2)),
+        vote_case("the same and a Verify-Final V: secondary", 6, vec![correct(1, 6), correct(2, 6), verify(3, 6)], stops, (3, 3)),
+        vote_case("both vector messages of a link count once", 6, vec![verify(1, 6), correct(1, 6), correct(2, 6)], votes, (1, 2)),
+        vote_case("the same, its own last: count once", 6, vec![correct(2, 6), verify(1, 6), correct(1, 6)], votes, (1, 2)),
         vote_case("Correct-Final V over Verify-Final U: held", 4, vec![other(1, 4), correct(1, 4)], RUNS_ON, (1, 1)),
         falls,
     ]
@@ -123,7 +128,7 @@ fn other_cases() -> Vec<Starred> {
         Starred { name: "own Announce arriving: discarded", ..started(DISCARDED, vec![(1, Verify(7)), (1, Announce(10))]) },
         Starred {
             name: "own Announce at an idle base: discarded, with the frames of its start",
-            ..started(Answer::Discarded([8, 8, 0]), vec![(1, Announce(10))])
+            ..started(Answer::Discarded(Sent::new([8, 8, 0], 2, 0)), vec![(1, Announce(10))])
         },
         Starred {
             name: "a second Verify of one identifier from one link: discarded",
@@ -165,7 +170,7 @@ fn wrong_figure(figure: &Figure, base: &Base) -> Option<String> {
     (expected != found).then(|| format!("{name} {found}, expected {expected}"))
 }
 
-/// Every case, the worked example, and the history of reading (c), on an engine. True where all come out right.
+/// Every case, the worked example, the history of reading (c), and that of the most slots, on an engine. True where all come out right.
 pub fn run(engine: &mut dyn Engine) -> bool {
     let mut passed = true;
     let mut tell = |name: &str, wrong: Option<String>| {
@@ -181,7 +186,20 @@ pub fn run(engine: &mut dyn Engine) -> bool {
     let report = (1..=12).map(line).collect::<String>() + "waiting 0\n";
     let schedule = render(&twelve::history(Fault::None).0);
     tell("the twelve bases of reading (c): all stop", wrong_report(engine, &schedule, &report));
+    tell("sixteen bases, all but two of which take 35 slots", wrong_airtime(engine));
     passed
+}
+
+/// The first base that takes other slots than it should: own 2 and a list of 9; relayed 15 Verifies, and a list where it was not prime.
+fn wrong_airtime(engine: &mut dyn Engine) -> Option<String> {
+    let History { setting, events } = sixteen::history().0;
+    let mut net = Net::new(setting, engine, Fault::None);
+    for (event, room) in &events {
+        net.happen(event, *room, engine);
+    }
+    let expected = |b: usize| Airtime { own: 11, relayed: if sixteen::PRIMES.contains(&b) { 15 } else { 24 } };
+    let wrong = (1..=net.setting.n()).find(|&b| net.spent[b - 1] != expected(b));
+    wrong.map(|b| format!("base {b} takes {:?}, expected {:?}", net.spent[b - 1], expected(b)))
 }
 
 fn wrong_report(engine: &mut dyn Engine, schedule: &str, expected: &str) -> Option<String> {

@@ -6,7 +6,7 @@ use std::fs;
 use std::path::{Path, PathBuf};
 
 /// So many schedules are stored. Where fewer are found, some are lost.
-const FEWEST: usize = 123;
+const FEWEST: usize = 124;
 
 /// Every schedule below a folder, in order of its path.
 pub fn schedules(folder: &Path) -> Vec<PathBuf> {

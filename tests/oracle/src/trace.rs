@@ -1,13 +1,16 @@
-//! What the trace program says became of each line, held against the model: accepted; discarded, and why; or turned down, by which number.
+//! What the trace program says became of each line, held against the model: accepted; discarded, and why; or turned down, by which number;
+//! and the slots of what it broadcast, by line and at the end.
 //! The reasons are the model's own, put into the trace's words here; `causes` works out why a line is refused, `figures` what a check
 //! counts.
 
+use crate::airtime::Airtime;
 use crate::base::{Base, Vote};
 use crate::causes;
+use crate::engine::Sent;
 use crate::faults::Fault;
 use crate::figures;
 use crate::generate::{histories, schedules};
-use crate::limits::{frame_bytes, link_to, LONGEST_SCHEDULE};
+use crate::limits::{frame_bytes, link_to, LONGEST_SCHEDULE, OUTPUT_ROOM};
 use crate::message::Message;
 use crate::model::Model;
 use crate::net::{Event, History, Net};
@@ -48,15 +51,20 @@ const REASONS: [(Discard, &str); 7] = [
 const OWN: &str = "the identifier is its own";
 /// Behind `accepted`, and before the list of the message that gave way.
 const REPLACED: &str = "accepted, in place of the link's Verify-Final of ";
+/// Behind a base's number.
+const SLOTS: &str = ", slots: ";
+/// Before each line of the totals.
+const TOTAL: &str = "slots of ";
 
-/// A line with an event: what became of it; the list that gave way, or what a refused burst's trailer says; and what the trace says of the
-/// check behind it.
+/// A line with an event: what became of it; the list that gave way, or what a refused burst's trailer says; what the trace says of the
+/// check behind it; and the slots, with whatever stands behind them.
 #[derive(Debug, PartialEq, Eq)]
 struct Told {
     line: usize,
     outcome: Outcome,
     detail: String,
     check: Vec<String>,
+    slots: Vec<String>,
 }
 
 /// The lines with an event, in order.
@@ -134,12 +142,13 @@ impl Compared {
     }
 }
 
-/// The report's lines; before them what waits, by its numbers; before a refusal's the refused line, its number, and why it is refused.
+/// The report's lines; before them what waits, by its numbers, and the slots; before a refusal's the refused line, its number, and why it
+/// is refused.
 fn ending(schedule: &[u8]) -> Vec<String> {
     let report = replay::report(schedule, Fault::None);
     let report = report.lines().map(str::to_string);
     let refused = match replay::replay(schedule, Fault::None) {
-        Ok(net) => return waits(&net).into_iter().chain(report).collect(),
+        Ok(net) => return waits(&net).into_iter().chain(totals(&net)).chain(report).collect(),
         Err(refused) => refused,
     };
     let (line, causes) = causes::told(schedule, refused);
@@ -156,28 +165,49 @@ fn waits(net: &Net) -> Vec<String> {
     pairs.iter().map(|((from, to), numbers)| format!("waiting from base {from} to base {to}, by number: {}", numbers.join(" "))).collect()
 }
 
+/// `slots of base 1: own 4, relayed 1, together 5`, of each base and then of all.
+fn totals(net: &Net) -> Vec<String> {
+    let line =
+        |of: String, spent: Airtime| format!("{TOTAL}{of}: own {}, relayed {}, together {}", spent.own, spent.relayed, spent.together());
+    let mut all = Airtime::default();
+    net.spent.iter().for_each(|&spent| all += spent);
+    let bases = net.spent.iter().enumerate().map(|(i, &spent)| line(format!("base {}", i + 1), spent));
+    bases.chain([line("all bases".to_string(), all)]).collect()
+}
+
 const REFUSED_BY: &str = "  refused by ";
 
-/// Line by line; of a number's line its beginning. tests/repository compares the words behind it.
+/// Line by line; of a number's line its beginning. tests/repository compares the words behind it. Totals of slots stand nowhere else.
 fn ends_with(trace: &str, ending: &[String]) -> bool {
     let lines: Vec<&str> = trace.lines().collect();
     let is = |line: &str, wanted: &String| line == wanted || (wanted.starts_with(REFUSED_BY) && line.starts_with(wanted.as_str()));
-    let begin = lines.len().saturating_sub(ending.len());
-    lines.len() >= ending.len() && lines[begin..].iter().zip(ending).all(|(line, wanted)| is(line, wanted))
+    let Some(begin) = lines.len().checked_sub(ending.len()) else { return false };
+    let total_before = lines[..begin].iter().any(|line| line.starts_with(TOTAL));
+    !total_before && lines[begin..].iter().zip(ending).all(|(line, wanted)| is(line, wanted))
 }
 
 fn by_the_model(schedule: &[u8]) -> Outcomes {
     let mut outcomes = Vec::new();
     // A refused schedule has been watched up to its refused line.
     let _ = replay::watched(schedule, Fault::None, &mut |line, net, event| {
-        outcomes.push(told(line, net, event));
+        outcomes.push(Told { slots: slots(net, event), ..told(line, net, event) });
     });
     outcomes
 }
 
+/// `  base 2, slots: own 2, relayed 1`, where the event's call broadcasts something.
+fn slots(net: &Net, event: &Event) -> Vec<String> {
+    let at = event.receiver();
+    let mut record = net.records[at - 1];
+    let sent = net.call(event, &mut record, &mut [0; OUTPUT_ROOM], &mut Model::TRUE.clone()).sent();
+    let line = format!("  base {at}{SLOTS}own {}, relayed {}", sent.airtime.own, sent.airtime.relayed);
+    (sent.lengths != Sent::NOTHING.lengths).then_some(line).into_iter().collect()
+}
+
+/// What became of the event, without its slots.
 fn told(line: usize, net: &Net, event: &Event) -> Told {
     let at = event.receiver();
-    let of = |outcome, detail| Told { line, outcome, detail, check: Vec::new() };
+    let of = |outcome, detail| Told { line, outcome, detail, check: Vec::new(), slots: Vec::new() };
     let refused = |number| of(Outcome::Refused(number), String::new());
     let mut base = match Base::admit(&net.records[at - 1], Fault::None) {
         Ok(base) => base,
@@ -244,13 +274,27 @@ fn by_the_trace(trace: &str) -> Result<Outcomes, String> {
         if let (true, Some(told)) = (is_check, outcomes.last_mut()) {
             told.check.push(text.to_string());
         }
+        take_slots(text, outcomes.last_mut().filter(|told| told.line == line))?;
         let Some(outcome) = text.strip_prefix("  base ").and_then(told_outcome) else { continue };
         // An idle base starts before it hears.
         outcomes.retain(|told| told.line != line);
         let (outcome, detail) = outcome.map_err(|reason| format!("the model knows no reason {reason:?}"))?;
-        outcomes.push(Told { line, outcome, detail, check: Vec::new() });
+        outcomes.push(Told { line, outcome, detail, check: Vec::new(), slots: Vec::new() });
     }
     Ok(outcomes)
+}
+
+/// A line about slots, and any line that stands behind it under the same event, where none belongs.
+fn take_slots(text: &str, event: Option<&mut Told>) -> Result<(), String> {
+    if !text.starts_with("  ") {
+        return Ok(());
+    }
+    match event {
+        Some(told) if text.contains(SLOTS) || !told.slots.is_empty() => told.slots.push(text.to_string()),
+        None if text.contains(SLOTS) => return Err(format!("slots of no event: {text}")),
+        _ => {}
+    }
+    Ok(())
 }
 
 /// Of a line that says what became of an event; or the words of a reason that there is not.
@@ -278,4 +322,158 @@ fn told_reason(said: &str) -> Result<(Outcome, String), String> {
     let words = said.strip_prefix("discarded, ").ok_or(said)?;
     let reason = REASONS.iter().find(|(_, known)| *known == words).map(|&(reason, _)| Outcome::Discarded(reason));
     reason.or((words == OWN).then_some(Outcome::Own)).map(|outcome| (outcome, String::new())).ok_or(said.to_string())
+}
+
+#[cfg(test)]
+mod tests {
+    use super::*;
+    use crate::starred::WORKED_EXAMPLE;
+
+    /// The worked example's trace by hand, without its header lines.
+    const TRACE: &str = "line 4: start 1
+  base 1 starts
+  base 1 broadcasts 1: Announce 500
+  base 1 broadcasts 2: Verify 500
+  base 1, slots: own 2, relayed 0
+line 5: start 2
+  base 2 starts
+  base 2 broadcasts 1: Announce 300
+  base 2 broadcasts 2: Verify 300
+  base 2, slots: own 2, relayed 0
+line 6: carry 1 2 1
+  base 2 hears Announce 500 from base 1 on link 1: accepted
+  base 2 broadcasts 3: Verify 500
+  base 2, prime check: certified 2, 2 needed; sum 2, 4 needed; suspects 1, at most 0; runs on
+  tallies: 300 has 1, 500 has 1
+  suspect: 300 and 500 (link 1 from base 1 lacks Verify 300)
+  base 2, slots: own 0, relayed 1
+line 7: carry 1 2 2
+  base 2 hears Verify 500 from base 1 on link 1: accepted
+  base 2, prime check: certified 2, 2 needed; sum 3, 4 needed; suspects 1, at most 0; runs on
+  tallies: 300 has 1, 500 has 2
+  suspect: 300 and 500 (link 1 from base 1 lacks Verify 300)
+line 8: carry 2 1 1
+  base 1 hears Announce 300 from base 2 on link 1: accepted
+  base 1 broadcasts 3: Verify 300
+  base 1, prime check: certified 2, 2 needed; sum 2, 4 needed; suspects 1, at most 0; runs on
+  tallies: 500 has 1, 300 has 1
+  suspect: 500 and 300 (link 1 from base 2 lacks Verify 500)
+  base 1, slots: own 0, relayed 1
+line 9: carry 2 1 2
+  base 1 hears Verify 300 from base 2 on link 1: accepted
+  base 1, prime check: certified 2, 2 needed; sum 3, 4 needed; suspects 1, at most 0; runs on
+  tallies: 500 has 1, 300 has 2
+  suspect: 500 and 300 (link 1 from base 2 lacks Verify 500)
+line 10: carry 2 1 3
+  base 1 hears Verify 500 from base 2 on link 1: accepted
+  base 1, prime check: certified 2, 2 needed; sum 4, 4 needed; suspects 0, at most 0; prime
+  base 1 broadcasts 4: Correct-Final 300 500
+  base 1 stops: prime 300 500 leader 500
+  base 1, slots: own 2, relayed 0
+line 11: carry 1 2 3
+  base 2 hears Verify 300 from base 1 on link 1: accepted
+  base 2, prime check: certified 2, 2 needed; sum 4, 4 needed; suspects 0, at most 0; prime
+  base 2 broadcasts 4: Correct-Final 300 500
+  base 2 stops: prime 300 500 leader 500
+  base 2, slots: own 2, relayed 0
+waiting from base 1 to base 2, by number: 4
+waiting from base 2 to base 1, by number: 4
+slots of base 1: own 4, relayed 1, together 5
+slots of base 2: own 4, relayed 1, together 5
+slots of all bases: own 8, relayed 2, together 10
+base 1 prime 300 500 leader 500
+base 2 prime 300 500 leader 500
+waiting 2
+";
+
+    /// Whether a trace of the schedule is as the model has it.
+    fn told_alike(schedule: &str, trace: &str) -> bool {
+        by_the_trace(trace) == Ok(by_the_model(schedule.as_bytes())) && ends_with(trace, &ending(schedule.as_bytes()))
+    }
+
+    #[test]
+    fn the_worked_example_is_told() {
+        assert!(told_alike(WORKED_EXAMPLE, TRACE));
+    }
+
+    #[test]
+    fn slots_told_otherwise_are_seen() {
+        let announce = "  base 2, slots: own 0, relayed 1\n";
+        let moved = TRACE.replacen(announce, "", 1).replacen("  base 2 broadcasts 3", &format!("{announce}  base 2 broadcasts 3"), 1);
+        let others = [
+            TRACE.replacen(announce, "", 1),
+            TRACE.replacen(announce, &announce.repeat(2), 1),
+            TRACE.replacen(announce, "  base 1, slots: own 0, relayed 1\n", 1),
+            TRACE.replacen(announce, "  base 2, slots: own 1, relayed 0\n", 1),
+            TRACE.replacen("own 2, relayed 0", "own 2, relayed 1", 1),
+            TRACE.replacen("line 8", "  base 2, slots: own 0, relayed 0\nline 8", 1),
+            format!("line 3: id 2 300\n{announce}{TRACE}"),
+            moved,
+        ];
+        assert!(others.iter().all(|trace| trace != TRACE && !told_alike(WORKED_EXAMPLE, trace)));
+    }
+
+    #[test]
+    fn totals_told_otherwise_are_seen() {
+        let (first, all) = ("slots of base 1: own 4, relayed 1, together 5\n", "slots of all bases: own 8, relayed 2, together 10\n");
+        let others = [
+            TRACE.replacen(first, "", 1),
+            TRACE.replacen(all, "", 1),
+            TRACE.replacen("together 10", "together 9", 1),
+            TRACE.replacen("own 4, relayed 1", "own 1, relayed 4", 1),
+            TRACE.replacen(all, "", 1).replacen(first, &format!("{all}{first}"), 1),
+            format!("{all}{TRACE}"),
+        ];
+        assert!(others.iter().all(|trace| trace != TRACE && !told_alike(WORKED_EXAMPLE, trace)));
+    }
+
+    /// An idle base starts on its own Announce, which is discarded; what comes again broadcasts nothing; a burst is refused.
+    #[test]
+    fn slots_stand_where_something_was_broadcast() {
+        let header = "net 4 1\nid 1 10\nid 2 20\nid 3 30\nid 4 40\nfaulty 1 2\n";
+        let schedule = format!("{header}forge 1 2 0000001401010008\nforge 1 2 0000001401010008\nforge 1 2 00\n");
+        let trace = "line 7: forge 1 2 0000001401010008
+  base 2 starts
+  base 2 broadcasts 1: Announce 20
+  base 2 broadcasts 2: Verify 20
+  base 2 hears Announce 20 from base 1 on link 1: discarded, the identifier is its own
+  base 2, slots: own 2, relayed 0
+line 8: forge 1 2 0000001401010008
+  base 2 hears Announce 20 from base 1 on link 1: discarded, the identifier is its own
+line 9: forge 1 2 00
+  base 2 hears a burst from base 1 on link 1: refused by 7, the burst is shorter than 8 or longer than 132 bytes
+waiting from base 2 to base 3, by number: 1 2
+waiting from base 2 to base 4, by number: 1 2
+slots of base 1: own 0, relayed 0, together 0
+slots of base 2: own 2, relayed 0, together 2
+slots of base 3: own 0, relayed 0, together 0
+slots of base 4: own 0, relayed 0, together 0
+slots of all bases: own 2, relayed 0, together 2
+base 1 idle
+base 2 running
+base 3 idle
+base 4 idle
+waiting 4
+";
+        assert!(told_alike(&schedule, trace));
+        let early = "  base 2, slots: own 2, relayed 0\n";
+        let moved = trace.replacen(early, "", 1).replacen("  base 2 hears", &format!("{early}  base 2 hears"), 1);
+        assert!(!told_alike(&schedule, &moved));
+    }
+
+    /// "Where a line is refused there are none of these."
+    #[test]
+    fn a_refused_line_has_no_totals() {
+        let schedule = "net 2 0\nid 1 500\nid 2 300\nstart 1\ncarry 2 1 1\n";
+        let begin = "line 4: start 1\n  base 1 starts\n  base 1, slots: own 2, relayed 0\n";
+        let end = "line 5: carry 2 1 1
+  refused by 16, a carry names a message not yet broadcast
+  a is `2`, and up to here that base has broadcast 0 messages
+refused 16 line 5
+";
+        let total = "slots of all bases: own 2, relayed 0, together 2\n";
+        assert!(told_alike(schedule, &format!("{begin}{end}")));
+        assert!(!told_alike(schedule, &format!("{begin}{total}{end}")));
+        assert!(!told_alike(schedule, &format!("{begin}{}", end.replacen("refused 16", &format!("{total}refused 16"), 1))));
+    }
 }

@@ -9,11 +9,9 @@
 //! - P, Q and R hold the true list from E, F, G, H and I alone, and F, G, H and I from B, E and three of each other: five, where six are
 //!   needed.
 
-use crate::engine::Engine;
+use crate::course::Course;
 use crate::faults::Fault;
-use crate::limits::OUTPUT_ROOM;
 use crate::message::Message;
-use crate::model::Model;
 use crate::net::{Event, History, Net, Setting};
 
 const B: usize = 1;
@@ -30,42 +28,12 @@ const Q: usize = 11;
 const R: usize = 12;
 const ALL: [usize; 12] = [B, C, D, W, E, F, G, H, I, P, Q, R];
 
-struct Course {
-    net: Net,
-    engine: Model,
-    events: Vec<Event>,
-}
-
-impl Course {
-    fn happen(&mut self, event: Event) {
-        self.net.happen(&event, OUTPUT_ROOM, &mut self.engine as &mut dyn Engine);
-        self.events.push(event);
-    }
-
-    fn carry(&mut self, from: usize, to: usize, k: usize) {
-        if !self.net.carried.contains(&(from, to, k)) {
-            self.happen(Event::Carry { from, to, k });
-        }
-    }
-
-    /// All that `from` has broadcast so far, to `to`.
-    fn carry_all(&mut self, from: usize, to: usize) {
-        (1..=self.net.logs[from - 1].len()).for_each(|k| self.carry(from, to, k));
-    }
-
-    fn forge(&mut self, from: usize, to: usize, message: Message) {
-        self.happen(Event::Forge { from, to, bytes: message.frame() });
-    }
-}
-
 /// The history as it runs on an engine with that fault: its last part carries whatever waits.
 pub fn history(fault: Fault) -> (History, Net) {
     let faulty = [(B, C), (B, D), (W, E), (F, G), (H, I)].into();
     let setting = Setting { t: 5, ids: (101..=112).collect(), faulty };
     let truth = setting.truth();
-    let mut engine = Model { fault };
-    let net = Net::new(setting.clone(), &mut engine, Fault::None);
-    let mut course = Course { net, engine, events: Vec::new() };
+    let mut course = Course::new(setting, fault);
     b_sends_a_false_verify_final(&mut course, &truth);
     b_becomes_prime(&mut course);
     e_becomes_secondary(&mut course, &truth);
@@ -76,7 +44,7 @@ pub fn history(fault: Fault) -> (History, Net) {
         }
         waiting.into_iter().for_each(|(from, to, k)| course.carry(from, to, k));
     }
-    (History::of(setting, course.events), course.net)
+    course.end()
 }
 
 fn b_sends_a_false_verify_final(course: &mut Course, truth: &[u32]) {

@@ -1,12 +1,14 @@
-//! The model against sentences of document 01 that are about more than one call, and against figures of document 02's first request.
+//! The model against sentences of document 01 that are about more than one call, and against figures of document 02's first two requests.
 
+use oracle::airtime;
 use oracle::base::Base;
 use oracle::case::Case;
 use oracle::demand;
-use oracle::engine::{Answer, Engine};
+use oracle::engine::{Answer, Engine, Sent, Written};
 use oracle::faults::Fault;
 use oracle::faulty;
-use oracle::generate::{arrivals, histories, records, unsound};
+use oracle::generate::{arrivals, histories, lives, records, unsound};
+use oracle::life::{Call, Life};
 use oracle::limits::{FAULTY_TEXT_ROOM, FEWEST_BASES, LONGEST_SCHEDULE, MOST_BASES, OUTPUT_ROOM, SMALL_BASES};
 use oracle::message::Message;
 use oracle::model::Model;
@@ -16,6 +18,7 @@ use oracle::refusal::{BASES, CARRIED_BEFORE, FAULTY_LIMIT, FORGED_ON_GOOD, FORM,
 use oracle::replay;
 use oracle::rng::Rng;
 use oracle::schedule::render;
+use oracle::shrink::shrink;
 use oracle::soundness::{broken_rules, Rule};
 use std::collections::BTreeSet;
 
@@ -33,7 +36,7 @@ fn a_refused_carry_is_not_carried_and_starts_nobody() {
     assert_eq!(net.waiting(), 2);
     assert_eq!(net.happen(&carry, OUTPUT_ROOM - 1, &mut model), Answer::Refused(OUTPUT));
     assert_eq!((net.waiting(), net.started.clone()), (2, vec![true, false]));
-    assert_eq!(net.happen(&carry, OUTPUT_ROOM, &mut model), Answer::Accepted([8, 8, 8]));
+    assert_eq!(net.happen(&carry, OUTPUT_ROOM, &mut model), Answer::Accepted(Sent::new([8, 8, 8], 2, 1)));
     assert_eq!((net.waiting(), net.started.clone()), (4, vec![true, true]));
     assert_eq!(net.happen(&carry, OUTPUT_ROOM, &mut model), Answer::Refused(CARRIED_BEFORE));
     assert_eq!(net.happen(&Event::Forge { from: 1, to: 2, bytes: vec![] }, 0, &mut model), Answer::Refused(FORGED_ON_GOOD));
@@ -47,7 +50,7 @@ fn a_discarded_arrival_has_been_carried() {
     net.happen(&Event::Start { at: 3 }, OUTPUT_ROOM, &mut model);
     net.happen(&Event::Forge { from: 1, to: 2, bytes: Message::Announce(3).frame() }, OUTPUT_ROOM, &mut model);
     let before = net.waiting();
-    assert_eq!(net.happen(&Event::Carry { from: 3, to: 2, k: 1 }, OUTPUT_ROOM, &mut model), Answer::Discarded([0; 3]));
+    assert_eq!(net.happen(&Event::Carry { from: 3, to: 2, k: 1 }, OUTPUT_ROOM, &mut model), Answer::Discarded(Sent::NOTHING));
     assert_eq!(net.waiting(), before - 1);
 }
 
@@ -59,8 +62,8 @@ fn a_carry_may_be_repeated_on_a_faulty_link() {
     net.happen(&Event::Start { at: 1 }, OUTPUT_ROOM, &mut model);
     assert_eq!(net.waiting(), 4);
     let carry = Event::Carry { from: 1, to: 2, k: 1 };
-    assert_eq!(net.happen(&carry, OUTPUT_ROOM, &mut model), Answer::Accepted([8, 8, 8]));
-    assert_eq!(net.happen(&carry, OUTPUT_ROOM, &mut model), Answer::Discarded([0; 3]));
+    assert_eq!(net.happen(&carry, OUTPUT_ROOM, &mut model), Answer::Accepted(Sent::new([8, 8, 8], 2, 1)));
+    assert_eq!(net.happen(&carry, OUTPUT_ROOM, &mut model), Answer::Discarded(Sent::NOTHING));
 }
 
 #[test]
@@ -103,12 +106,12 @@ fn a_schedule_tells_its_history() {
     let mut rng = Rng::new(7);
     for _ in 0..60 {
         let (history, net) = histories::history(&mut rng).as_scheduled(&mut Model::TRUE.clone());
-        assert_eq!(demand::broken(&net), None);
+        assert_eq!((demand::broken(&net), demand::overspent(&net)), (None, None));
         let text = render(&history);
         if text.len() <= LONGEST_SCHEDULE {
             let told = replay::replay(text.as_bytes(), Fault::None).expect("a history's schedule is not refused");
             assert_eq!(told.records, net.records);
-            assert_eq!((told.logs, told.carried), (net.logs, net.carried));
+            assert_eq!((told.logs, told.spent, told.carried), (net.logs, net.spent, net.carried));
         }
     }
 }
@@ -197,5 +200,85 @@ fn faulty_text_of_small_nets() {
     let nets = [("net 17 9\n", BASES), ("net 7 3\n", FAULTY_LIMIT), ("net 7 2\n", LARGE_NET)];
     for (text, number) in forms.into_iter().chain(nets) {
         assert_eq!(faulty_text(text, FAULTY_TEXT_ROOM), format!("refused {number} line 1\n"));
+    }
+}
+
+/// "A frame of one identifier is 1 slot, a list frame of n is (n + 1) / 2 rounded up."
+#[test]
+fn a_written_frame_has_the_slots_of_the_request() {
+    let write = |n, kind, ids: &[u32]| Model::TRUE.clone().write(n, kind, ids, &mut [0; OUTPUT_ROOM]);
+    assert_eq!([1, 2].map(|kind| write(16, kind, &[7])), [Ok(Written { length: 8, slots: 1 }); 2]);
+    let list: Vec<u32> = (1..=16).collect();
+    assert_eq!([3, 4].map(|kind| write(16, kind, &list)), [Ok(Written { length: 68, slots: 9 }); 2]);
+    assert_eq!(write(3, 3, &[1, 2, 3]), Ok(Written { length: 16, slots: 2 }));
+    assert_eq!(write(16, 3, &list[1..]), Err(9));
+}
+
+/// "A discarded arrival at an idle base has own 2, relayed 0. A refused call has none."
+#[test]
+fn a_discarded_first_arrival_has_the_slots_of_its_start() {
+    let mut model = Model::TRUE;
+    let mut record = RawBase::BLANK;
+    assert_eq!(model.idle(4, 1, 10, &mut record), 0);
+    assert_eq!(model.arrive(&mut record, 1, &[], &mut [0; OUTPUT_ROOM]).sent(), Sent::NOTHING);
+    let answer = model.arrive(&mut record, 1, &Message::Announce(10).frame(), &mut [0; OUTPUT_ROOM]);
+    assert_eq!(answer, Answer::Discarded(Sent::new([8, 8, 0], 2, 0)));
+    assert_eq!(model.start(&mut record, &mut [0; OUTPUT_ROOM]), Answer::Discarded(Sent::NOTHING));
+}
+
+/// A start, an Announce on each link, every Verify of the first, and Correct-Finals of the first two links.
+fn fullest_life(n: usize) -> Life {
+    let list: Vec<u32> = (1..=n as u32).collect();
+    let arrive = |link: usize, message: Message| Call::Arrive { link, burst: message.frame(), room: OUTPUT_ROOM };
+    let mut calls = vec![Call::Start { room: OUTPUT_ROOM }];
+    calls.extend((1..n).map(|link| arrive(link, Message::Announce(list[link]))));
+    calls.extend(list.iter().map(|&id| arrive(1, Message::Verify(id))));
+    calls.extend((1..n.min(3)).map(|link| arrive(link, Message::CorrectFinal(list.clone()))));
+    Life { n, t: 0, own: 1, calls }
+}
+
+/// "at most n + 1 plus twice (n + 1) / 2 rounded up: 35 for 16 bases": reached, but for two bases, where no base can send a Verify-Final.
+#[test]
+fn a_life_comes_to_the_most_slots() {
+    for n in FEWEST_BASES..=MOST_BASES {
+        let (spent, broken) = fullest_life(n).live(&mut Model::TRUE.clone());
+        assert_eq!((spent.together(), broken), (airtime::reachable(n), None), "n = {n}");
+        assert!(n == 2 || spent == airtime::most(n));
+    }
+    assert_eq!(fullest_life(16).live(&mut Model::TRUE.clone()).0.together(), 35);
+    assert_eq!(fullest_life(2).live(&mut Model::TRUE.clone()).0.together(), 5);
+}
+
+#[test]
+fn made_lives_keep_to_their_slots_and_come_to_the_most() {
+    let mut rng = Rng::new(8);
+    let mut full = BTreeSet::new();
+    for _ in 0..3000 {
+        let life = lives::life(&mut rng);
+        let (spent, broken) = life.live(&mut Model::TRUE.clone());
+        assert_eq!(broken, None);
+        assert!(spent.together() <= airtime::reachable(life.n));
+        full.extend((spent.together() == airtime::reachable(life.n)).then_some(life.n));
+    }
+    assert!(full.into_iter().eq(FEWEST_BASES..=MOST_BASES));
+}
+
+#[test]
+fn a_life_is_shortened_to_the_calls_that_differ() {
+    let mut engine = Model { fault: Fault::VerifyFinalOwn };
+    let Case::Life(short) = shrink(&Case::Life(fullest_life(5)), &mut engine) else { panic!("a life stays one") };
+    let two: Vec<Call> = fullest_life(5).calls.into_iter().rev().take(2).rev().collect();
+    assert_eq!(short.calls, two);
+}
+
+/// Slots that a faulty model answers show in a life: they are other than those of the frames.
+#[test]
+fn wrong_sums_break_a_life() {
+    for fault in [Fault::SlotsRoundedDown, Fault::SlotsForEachLink, Fault::OwnSumTwice, Fault::RelayedSumTwice] {
+        assert!(fullest_life(4).live(&mut Model { fault }).1.is_some(), "{fault:?}");
+    }
+    for fault in [Fault::OwnVerifyRelayed, Fault::CorrectFinalRelayed, Fault::VerifyFinalOwn] {
+        let broken = fullest_life(4).live(&mut Model { fault }).1;
+        assert!(broken.is_some_and(|what| what.contains("at most")), "{fault:?}");
     }
 }

@@ -1,6 +1,7 @@
 -- `broadcasting::say` meets its contract: a kind that there is not, more identifiers than the array has, and else what is put.
 use Rattle.broadcasting.specs.Broadcasting.Laws.{nothing-said, unknown-frame, long-frame, put-frame}
 use Rattle.frame.specs.Message.Laws.{shape-known, shape-unknown}
+use Rattle.frame.specs.Slots.{sizeOf}
 use Rattle.limits.specs.Limits.{mostBases}
 use lib.Seq.{length-take-le}
 use lib.ListN.{length, take}
@@ -20,16 +21,22 @@ enum-known-count c = search needs
 enum-told : tie.Need-enum-told
 enum-told c = search needs
 
+frame-size-requires : tie.Need-frame-size-requires
+frame-size-requires c κs = search needs
+
 returns : tie.Need-returns
-returns c = let a = c .before .before .before .before .args in
-    nothing-said _ _ (unknown-frame (a .n)
-    (a .kind) (a .t3) _ (shape-unknown (a .kind) (a .n) (sym (c .before .before .shape-of .ensures) ∙ c .enum-told .given .1)))
+returns c = let a = c .before .before .before .before .before .args in
+    nothing-said _ _ (c .frame-size .ensures) (unknown-frame (a .n) (a .kind) (a .t3) _
+    (shape-unknown (a .kind) (a .n) (sym (c .before .before .before .shape-of .ensures) ∙ c .before .enum-told .given .1)))
+
+frame-size-requires-2 : tie.Need-frame-size-requires-2
+frame-size-requires-2 c κs = search needs
 
 returns-2 : tie.Need-returns-2
-returns-2 c = let a = c .before .before .before .before .before .before .args in
+returns-2 c = let a = c .before .before .before .before .before .before .before .args in
     let k = shape-known (a .kind)
-    (a .n) (sym (c .before .before .before .before .shape-of .ensures) ∙ c .before .before .count .given .1) in
-    nothing-said _ _ (long-frame (a .n) (a .kind) (a .t3) _ (omega (arith, k .1 .0)))
+    (a .n) (sym (c .before .before .before .before .before .shape-of .ensures) ∙ c .before .before .before .count .given .1) in
+    nothing-said _ _ (c .frame-size2 .ensures) (long-frame (a .n) (a .kind) (a .t3) _ (omega (arith, k .1 .0, c .before .if1 .taken)))
 
 array-share-prefix-ids : tie.Need-array-share-prefix-ids
 array-share-prefix-ids c = search needs
@@ -54,7 +61,7 @@ returns-3 c = let s = c .before .before .before .before .before .before .before 
     let p = put-frame (a .n) (a .kind) (a .t3) (take (c .before .before .before .before .before .before .before .count .given .0 .0)
     (a .t3)) (a .out .now) (omega (arith, k .1 .0))
     (ap (λ (m : ℕ). take m (a .t3)) (k .1 .0)) (length-take-le _ (a .t3) (omega arith) ∙ k .1 .0) in
-    (c .before .before .put .ensures .0 ∙ p .0, c .before .before .put .ensures .1 ∙ p .1)
+    (c .before .before .put .ensures .0 ∙ ap sizeOf (p .0), c .before .before .put .ensures .1 ∙ p .1)
 
 pub say-spec : {M : Type 1} → statement M
 say-spec =
@@ -63,7 +70,9 @@ say-spec =
     shape-of-requires
     enum-known-count
     enum-told
+    frame-size-requires
     returns
+    frame-size-requires-2
     returns-2
     array-share-prefix-ids
     slice-aggregate-put

@@ -1,6 +1,6 @@
 -- A frame that fits is written, and any other is not.
 use Prim.Native.Nat.{ℕ, _-_, _≤_, _<_}
-use mathlib.Core.Path.{_≡_, refl, sym, ap, _∙_}
+use mathlib.Core.Path.{_≡_, refl, sym, ap, ap₂, _∙_}
 use mathlib.Core.Bool.{Bool, true, false}
 use mathlib.Core.List.{List, [], _++_, append-nil}
 use native.Mathlib.Omega.{arith}
@@ -13,6 +13,8 @@ use Rattle.lists.specs.Choice.Laws.{choose-yes, choose-no, choose-ind, and-true
 use Rattle.frame.specs.Message.{known, expected, lengthOf}
 use Rattle.frame.specs.Encoding.{frameOf, over}
 use Rattle.frame.specs.Encoding.Laws.{length-frame, over-nothing}
+use Rattle.frame.specs.declared.size.FrameSize.{FrameSize}
+use Rattle.frame.specs.Slots.{sizeOf}
 use Rattle.frame.specs.Reading.{kindRefusal}
 use Rattle.frame.specs.Reading.Laws.{kind-unknown, kind-size}
 use Rattle.frame_room.specs.Room.{frameFits}
@@ -90,38 +92,39 @@ module _ (n kind : ℕ) (ids front output : List ℕ) (h : expected kind n ≤ m
       go false t = put-unfit t
 
 -- nothing written
-pub nothing-said : (f output : List ℕ) → f ≡ [] → (0 ≡ length f) × (output ≡ over f output)
-nothing-said f output e = (ap length (sym e), sym (over-nothing output) ∙ ap (λ (b : List ℕ). over b output) (sym e))
+pub nothing-said : {r : FrameSize} (f output : List ℕ) → r ≡ sizeOf 0 → f ≡ [] → (r ≡ sizeOf (length f)) × (output ≡ over f output)
+nothing-said f output z e =
+    (z ∙ ap (λ (b : List ℕ). sizeOf (length b)) (sym e), sym (over-nothing output) ∙ ap (λ (b : List ℕ). over b output) (sym e))
 
 -- ---- the frame behind the first
 module _ (n first : ℕ) (ids : List ℕ) (stops : Bool) (list output : List ℕ) where
-  abbrev Broadcast : Outcome → List ℕ → Type 0
-  Broadcast r after =
-      (r ≡ acceptedWith (length (frameIn n first ids (length output))) (length (lastFrame n first ids stops list (length output))))
-      × (after ≡ over (frameIn n first ids (length output) ++ lastFrame n first ids stops list (length output)) output)
+  abbrev front : List ℕ
+  front = frameIn n first ids (length output)
 
-  pub runs-on-said : (r : Outcome) (size : ℕ) (after : List ℕ) → stops ≡ false → size ≡ length (frameIn n first ids (length output))
-      → r ≡ acceptedWith size 0 → after ≡ over (frameIn n first ids (length output)) output → Broadcast r after
+  abbrev last : List ℕ
+  last = lastFrame n first ids stops list (length output)
+
+  abbrev Broadcast : Outcome → List ℕ → Type 0
+  Broadcast r after = (r ≡ acceptedWith (sizeOf (length front)) (sizeOf (length last))) × (after ≡ over (front ++ last) output)
+
+  pub runs-on-said : (r : Outcome) (size none : FrameSize) (after : List ℕ) → stops ≡ false → size ≡ sizeOf (length front)
+      → none ≡ sizeOf 0 → r ≡ acceptedWith size none → after ≡ over front output → Broadcast r after
   unfolding lastFrame
-  runs-on-said r size after e s p q =
-      let z : lastFrame n first ids stops list (length output) ≡ [] = choose-no _ _ e in (
-        p ∙ ap (λ (x : ℕ). acceptedWith x 0) s
-            ∙ ap (λ (l : List ℕ). acceptedWith (length (frameIn n first ids (length output))) (length l)) (sym z),
-        q ∙ ap (λ (b : List ℕ). over b output)
-            (sym (append-nil (frameIn n first ids (length output)))
-            ∙ ap (λ (l : List ℕ). frameIn n first ids (length output) ++ l) (sym z)),
+  runs-on-said r size none after e s o p q =
+      let z : last ≡ [] = choose-no _ _ e in (
+        p ∙ ap₂ acceptedWith s (o ∙ ap (λ (l : List ℕ). sizeOf (length l)) (sym z)),
+        q ∙ ap (λ (b : List ℕ). over b output) (sym (append-nil front) ∙ ap (λ (l : List ℕ). front ++ l) (sym z)),
       )
 
-  pub stops-said : (r : Outcome) (size back room : ℕ) (after : List ℕ) → stops ≡ true → size ≡ length (frameIn n first ids (length output))
-      → room ≡ length output - size → back ≡ length (frameIn n 3 list room) → r ≡ acceptedWith size back
-      → after ≡ over (frameIn n first ids (length output) ++ frameIn n 3 list room) output → Broadcast r after
+  pub stops-said : (r : Outcome) (size back : FrameSize) (room : ℕ) (after : List ℕ) → stops ≡ true → size ≡ sizeOf (length front)
+      → room ≡ length output - size .length → back ≡ sizeOf (length (frameIn n 3 list room)) → r ≡ acceptedWith size back
+      → after ≡ over (front ++ frameIn n 3 list room) output → Broadcast r after
   unfolding lastFrame
   stops-said r size back room after e s m k p q =
-      let f = frameIn n first ids (length output) in
-      let z : frameIn n 3 list room ≡ lastFrame n first ids stops list (length output) =
-      ap (frameIn n 3 list) (m ∙ ap (λ (x : ℕ). length output - x) s) ∙ sym (choose-yes _ _ e) in (
-        p ∙ ap (λ (x : ℕ). acceptedWith x back) s ∙ ap (acceptedWith (length f)) (k ∙ ap length z),
-        q ∙ ap (λ (l : List ℕ). over (f ++ l) output) z,
+      let z : frameIn n 3 list room ≡ last =
+      ap (frameIn n 3 list) (m ∙ ap (λ (x : FrameSize). length output - x .length) s) ∙ sym (choose-yes _ _ e) in (
+        p ∙ ap₂ acceptedWith s (k ∙ ap (λ (l : List ℕ). sizeOf (length l)) z),
+        q ∙ ap (λ (l : List ℕ). over (front ++ l) output) z,
       )
 
 -- the rest of an output, past its first bytes

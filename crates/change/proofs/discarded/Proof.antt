@@ -1,5 +1,7 @@
 -- `change::discarded` meets its contract.
-use Rattle.protocol.specs.Steps.{discards, outcomeOf, lengths}
+use Rattle.lists.specs.Lists.{sumOver}
+use Rattle.protocol.specs.Airtime.{ownSlots, relayedSlots}
+use Rattle.protocol.specs.Steps.{discards, outcomeWith, lengths}
 use borrow.Author.Needs.{needs}
 use Rattle.change.proofs.discarded.Statement.{statement}
 use Rattle.change.proofs.discarded.Tie as tie
@@ -8,7 +10,7 @@ only-state-requires : tie.Need-only-state-requires
 only-state-requires c κs = search needs
 
 returns : tie.Need-returns
-unfolding discards outcomeOf lengths
+unfolding discards outcomeWith lengths ownSlots relayedSlots sumOver
 returns c = record { outcome = c .only-state .ensures .0; base = c .only-state .ensures .1 }
 
 pub discarded-spec : {M : Type 1} → statement M

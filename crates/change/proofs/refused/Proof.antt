@@ -1,5 +1,5 @@
 -- `change::refused` meets its contract.
-use Rattle.protocol.specs.Steps.{refuses, withState, outcomeOf}
+use Rattle.protocol.specs.Steps.{refuses, withState, outcomeWith}
 use borrow.Author.Needs.{needs}
 use Rattle.change.proofs.refused.Statement.{statement}
 use Rattle.change.proofs.refused.Tie as tie
@@ -8,7 +8,7 @@ only-state-requires : tie.Need-only-state-requires
 only-state-requires c κs = search needs
 
 returns : tie.Need-returns
-unfolding refuses withState outcomeOf
+unfolding refuses withState outcomeWith
 returns c = record { outcome = c .only-state .ensures .0; base = c .only-state .ensures .1 }
 
 pub refused-spec : {M : Type 1} → statement M

@@ -7,14 +7,14 @@ use Rattle.protocol.specs.declared.Outcome.{Outcome}
 use Rattle.change.specs.declared.Change.{Change}
 use Rattle.accepting.specs.declared.Accepted.{Accepted}
 use Rattle.deciding.specs.declared.Decision.{Decision}
-use Rattle.broadcasting.specs.Broadcasting.{behindStart}
 use Rattle.responding.specs.Responding.{responseChange}
-use Rattle.start_frames.specs.Frames.{startFrames, startLength}
-use Rattle.first_message.specs.FirstMessage.{firstChange}
+use Rattle.start_frames.specs.declared.StartSizes.{StartSizes}
+use Rattle.start_frames.specs.Frames.{startFrames, startSizes}
+use Rattle.first_message.specs.FirstMessage.{behindStart, firstChange}
 
-pub first-change : (n own i : ℕ) (a : Accepted) (d : Decision) (ids : List ℕ) (room front next part : ℕ) (o : Outcome) (rest : Change)
-    → front ≡ startLength room → next ≡ startLength room → part ≡ room - length (startFrames own room)
-    → rest ≡ responseChange n i a d ids part → o ≡ behindStart front next (rest .outcome)
+pub first-change : (n own i : ℕ) (a : Accepted) (d : Decision) (ids : List ℕ) (room part : ℕ) (start : StartSizes) (o : Outcome)
+    (rest : Change) → start ≡ startSizes room → part ≡ room - length (startFrames own room)
+    → rest ≡ responseChange n i a d ids part → o ≡ behindStart start (rest .outcome)
     → _≡_ {A = Change} (record {
       outcome = o;
       state = rest .state;
@@ -24,7 +24,7 @@ pub first-change : (n own i : ℕ) (a : Accepted) (d : Decision) (ids : List ℕ
       «final_list» = rest .«final_list»;
     }) (firstChange n own i a d ids room)
 unfolding firstChange responseChange
-first-change n own i a d ids room front next part o rest e f g p q =
+first-change n own i a d ids room part start o rest e g p q =
     let k : rest ≡ responseChange n i a d ids (room - length (startFrames own room)) = p ∙ ap (responseChange n i a d ids) g in
     ap₂ (λ (x : Outcome) (c : Change). record {
       outcome = x;
@@ -34,5 +34,4 @@ first-change n own i a d ids room front next part o rest e f g p q =
       link = c .link;
       «final_list» = c .«final_list»;
     })
-    (q ∙ ap₂ (λ (x y : ℕ). behindStart x y (rest .outcome)) e f
-    ∙ ap (λ (c : Change). behindStart (startLength room) (startLength room) (c .outcome)) k) k
+    (q ∙ ap₂ (λ (s : StartSizes) (c : Change). behindStart s (c .outcome)) e k) k

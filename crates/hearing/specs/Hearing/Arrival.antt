@@ -25,13 +25,12 @@ use Rattle.change.specs.Change.Laws.{does-as, discards-does}
 use Rattle.change.specs.Heard.{messageIn}
 use Rattle.accepting.specs.declared.Accepted.{Accepted}
 use Rattle.deciding.specs.declared.Decision.{Decision}
-use Rattle.broadcasting.specs.Broadcasting.{behindStart}
 use Rattle.broadcasting.specs.Broadcasting.Laws.{rest-length}
 use Rattle.settling.specs.Settling.{withinLinks, acceptedAt, decidedAt}
 use Rattle.responding.specs.Responding.{responseFrames, responseOutcome, responseChange}
-use Rattle.start_frames.specs.Frames.{startFrames, startLength}
-use Rattle.start_frames.specs.Frames.Laws.{start-long, start-fits, start-length-is, start-says}
-use Rattle.first_message.specs.FirstMessage.{firstFrames, firstChange}
+use Rattle.start_frames.specs.Frames.{startFrames, startLength, startSizes}
+use Rattle.start_frames.specs.Frames.Laws.{start-long, start-fits, start-length-is, start-sizes-are, start-says}
+use Rattle.first_message.specs.FirstMessage.{behindStart, firstFrames, firstChange}
 use Rattle.hearing.specs.Hearing.{hearRefusal, messageArrival}
 use Rattle.hearing.specs.Hearing.Laws.{HeardPassed, heard-passed, heard-on, message-passed}
 use Rattle.hearing.specs.Hearing.Decided.Response.{response-does}
@@ -106,20 +105,20 @@ module _ (b : Base) (link number kind : ℕ) (ids output : List ℕ) (passes : h
 
     firstOutcome : ℕ → Outcome
     firstOutcome l =
-        behindStart (startLength (length output)) (startLength (length output)) (responseOutcome (b .n) (a .accepted) D ids l)
+        behindStart (startSizes (length output)) (responseOutcome (b .n) (a .accepted) D ids l)
 
     starts : Sized b → idle b ≡ true → r ≡ firstChange (b .n) (b .own) (link - 1) a D ids (length output)
         → after ≡ over (firstFrames (b .n) (b .own) (a .accepted) D ids (length output)) output
         → Does b (afterStart b m) r output after
-    unfolding m start firstOutcome firstChange firstFrames responseChange changedBase outputOf
+    unfolding m start firstOutcome firstChange firstFrames responseChange changedBase outputOf withState
     starts Z k p q =
         let room = length output in
         let wide = H .place .wide in
-        let small = idle-first b Z (R .refusal) k (link - 1) (R .here) (messageIn (b .n) kind ids) .brief .small in
+        let quiet = idle-first b Z (R .refusal) k (link - 1) (R .here) (messageIn (b .n) kind ids) in
         let one : startLength room ≡ frameBytes 1 = start-length-is room (omega (arith, wide)) in
-        let T = responds rest _ _ (omega (arith, wide, small, rest-long, start-long (b .own) room, one)) refl refl in
+        let T = responds rest _ _ (omega (arith, wide, quiet .brief .small, rest-long, start-long (b .own) room, one)) refl refl in
         let same : room - length start ≡ length rest = sym rest-long in
-        behind-does b m _ r (startLength room) (startLength room) _ _ output after T one one
+        behind-does b m _ r (startSizes room) _ _ output after T (quiet .relays) (start-sizes-are room (omega (arith, wide)))
         (ap (λ (c : Change). c .outcome) p ∙ ap firstOutcome same)
         (ap (changedBase b) p)
         (q ∙ ap (λ (l : ℕ). over (start ++ responseFrames (b .n) (a .accepted) D ids l) output) same

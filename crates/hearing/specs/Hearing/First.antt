@@ -1,7 +1,7 @@
 -- An arrival by the base's state: at a running base the message alone, at an idle one the two frames of the start and the message's
 -- frame behind them.
 use Prim.Native.Nat.{ℕ, _-_, _≤_, _<_}
-use mathlib.Core.Path.{_≡_, refl, sym, ap, _∙_}
+use mathlib.Core.Path.{_≡_, refl, sym, ap, ap₂, _∙_}
 use mathlib.Core.Logic.{_≢_}
 use mathlib.Core.List.{List, [], _∷_, _++_}
 use native.Mathlib.Omega.{arith}
@@ -11,6 +11,7 @@ use lib.ListN.{length, take, getD, length-take}
 use Rattle.limits.specs.Limits.{mostBases, frameBytes, outputRoom}
 use Rattle.limits.specs.Refusals.{NetSize}
 use Rattle.lists.specs.Choice.Laws.{choose-ind, choose-no}
+use Rattle.lists.specs.Lists.{sumOver}
 use Rattle.frame.specs.Message.{Message, announce, verify, kindOf, idsOf, expected}
 use Rattle.frame.specs.Message.Laws.{expected-range}
 use Rattle.frame.specs.Reading.{message}
@@ -18,16 +19,19 @@ use Rattle.frame.specs.Encoding.{encode, over}
 use Rattle.frame.specs.Encoding.Laws.{length-frame}
 use Rattle.protocol.specs.declared.Base.{Base}
 use Rattle.protocol.specs.declared.Outcome.the-variants.{Accepted, Discarded}
+use Rattle.protocol.specs.Airtime.{ownSlots, relayedSlots}
+use Rattle.protocol.specs.Airtime.Laws.{announce-part, own-verify-part}
 use Rattle.protocol.specs.Sound.{idle, stopped, recordRefusal}
 use Rattle.protocol.specs.Sound.Laws.{record-passed}
 use Rattle.protocol.specs.Steps.{Answer, accepted, discarded, refused, Done, accepts, withState, begins, onMessage, arrivalStep}
-use Rattle.protocol.specs.Steps.{encodeAll, lengths, outcomeOf, outputOf}
+use Rattle.protocol.specs.Steps.{encodeAll, lengths, outcomeWith, outcomeOf, outputOf}
 use Rattle.protocol.specs.Steps.Cases.{begun, afterStart}
 use Rattle.protocol.specs.Steps.Sizes.{message-brief, said-fits}
 use Rattle.change.specs.declared.Change.{Change}
 use Rattle.change.specs.Change.{changedBase, Does}
 use Rattle.change.specs.Heard.{messageIn}
-use Rattle.broadcasting.specs.Broadcasting.{behindStart}
+use Rattle.start_frames.specs.declared.StartSizes.{StartSizes}
+use Rattle.first_message.specs.FirstMessage.{behindStart}
 use Rattle.settling.specs.Settling.{withinLinks}
 use Rattle.settling.specs.Settling.Places.{within-same}
 use Rattle.hearing.specs.Hearing.Decided.Frames.{encode-append}
@@ -83,14 +87,26 @@ verify-long : (own : ℕ) → frameBytes 1 ≡ length (encode (verify own))
 unfolding encode kindOf idsOf
 verify-long own = sym (length-frame 2 (own ∷ []))
 
-behind-outcome : (x y : ℕ) (a : Answer) (own : ℕ) (says : List Message) → x ≡ frameBytes 1 → y ≡ frameBytes 1
-    → behindStart x y (outcomeOf a says) ≡ outcomeOf a (announce own ∷ (verify own ∷ says))
-unfolding behindStart outcomeOf lengths
-behind-outcome x y accepted own says e f =
-    λ i. Accepted ((e ∙ announce-long own) i) ((f ∙ verify-long own) i) (getD (lengths says) 0 0)
-behind-outcome x y discarded own says e f =
-    λ i. Discarded ((e ∙ announce-long own) i) ((f ∙ verify-long own) i) (getD (lengths says) 0 0)
-behind-outcome x y (refused r) own says e f = refl
+-- the sizes of the start's frames
+shortStart : StartSizes
+shortStart = record { announce = frameBytes 1; verify = frameBytes 1; slots = 2 }
+
+module _ (own : ℕ) (says : List Message) (o : ownSlots own says ≡ 0) where
+  own-behind : 2 ≡ ownSlots own (announce own ∷ (verify own ∷ says))
+  unfolding ownSlots sumOver
+  own-behind = omega (arith, announce-part own own .0, own-verify-part own .0, o)
+
+  relayed-behind : relayedSlots own says ≡ relayedSlots own (announce own ∷ (verify own ∷ says))
+  unfolding relayedSlots sumOver
+  relayed-behind = omega (arith, announce-part own own .1, own-verify-part own .1)
+
+  behind-outcome : (a : Answer) → behindStart shortStart (outcomeWith own a says) ≡ outcomeWith own a (announce own ∷ (verify own ∷ says))
+  unfolding behindStart shortStart outcomeWith lengths
+  behind-outcome accepted =
+      λ i. Accepted (announce-long own i) (verify-long own i) (getD (lengths says) 0 0) (own-behind i) (relayed-behind i)
+  behind-outcome discarded =
+      λ i. Discarded (announce-long own i) (verify-long own i) (getD (lengths says) 0 0) (own-behind i) (relayed-behind i)
+  behind-outcome (refused r) = refl
 
 behind-output : (b : Base) (d : Done) (output after : List ℕ) → after ≡ over (encodeAll (begins b .says) ++ encodeAll (d .says)) output
     → after ≡ outputOf (afterStart b d) output
@@ -98,20 +114,27 @@ unfolding outputOf afterStart begins accepts
 behind-output b d output after p =
     p ∙ ap (λ (f : List ℕ). over f output) (sym (encode-append (announce (b .own) ∷ (verify (b .own) ∷ [])) (d .says)))
 
-pub behind-does : (b : Base) (d : Done) (rest c : Change) (x y : ℕ) (part done output after : List ℕ) → Does b d rest part done
-    → x ≡ frameBytes 1 → y ≡ frameBytes 1 → c .outcome ≡ behindStart x y (rest .outcome) → changedBase b c ≡ changedBase b rest
+pub behind-does : (b : Base) (d : Done) (rest c : Change) (s : StartSizes) (part done output after : List ℕ) → Does b d rest part done
+    → ownSlots (b .own) (d .says) ≡ 0 → s ≡ record { announce = frameBytes 1; verify = frameBytes 1; slots = 2 }
+    → c .outcome ≡ behindStart s (rest .outcome) → changedBase b c ≡ changedBase b rest
     → after ≡ over (encodeAll (begins b .says) ++ encodeAll (d .says)) output → Does b (afterStart b d) c output after
-behind-does b d rest c x y part done output after R e f p q w = record {
+behind-does b d rest c s part done output after R o e p q w = record {
   changes = record {
-    outcome = p ∙ ap (behindStart x y) (R .changes .outcome) ∙ behind-outcome x y (d .answer) (b .own) (d .says) e f ∙ answers;
+    outcome = p ∙ ap₂ behindStart (e ∙ short) (R .changes .outcome ∙ ap (λ (own : ℕ). outcomeWith own (d .answer) (d .says)) same)
+        ∙ behind-outcome (b .own) (d .says) o (d .answer) ∙ answers;
     base = q ∙ R .changes .base ∙ base;
   };
   written = behind-output b d output after w;
 }
   where
-    answers : outcomeOf (d .answer) (announce (b .own) ∷ (verify (b .own) ∷ d .says))
-        ≡ outcomeOf (afterStart b d .answer) (afterStart b d .says)
-    answers = unfold afterStart in refl
+    same : d .base .own ≡ b .own
+    same = unfold changedBase in sym (ap (λ (x : Base). x .own) (R .changes .base))
+
+    short : _≡_ {A = StartSizes} (record { announce = frameBytes 1; verify = frameBytes 1; slots = 2 }) shortStart
+    short = unfold shortStart in refl
+
+    answers : outcomeWith (b .own) (d .answer) (announce (b .own) ∷ (verify (b .own) ∷ d .says)) ≡ outcomeOf (afterStart b d)
+    answers = unfold afterStart in ap (λ (own : ℕ). outcomeWith own (d .answer) (announce (b .own) ∷ (verify (b .own) ∷ d .says))) (sym same)
 
     base : d .base ≡ afterStart b d .base
     base = unfold afterStart in refl

@@ -17,7 +17,7 @@ use Rattle.frame.specs.Encoding.Laws.{length-over}
 use Rattle.protocol.specs.declared.Base.{Base}
 use Rattle.protocol.specs.declared.Outcome.{Outcome}
 use Rattle.protocol.specs.Net.{callRefusal}
-use Rattle.protocol.specs.Steps.{Answer, accepted, discarded, refused, Done, encodeAll, lengths, outcomeOf, outputOf}
+use Rattle.protocol.specs.Steps.{Answer, accepted, discarded, refused, Done, encodeAll, lengths, outcomeWith, outputOf}
 use Rattle.protocol.specs.Steps.Answers.{Unchanged}
 use Rattle.protocol.specs.Steps.Output.{lengths-sum}
 use Rattle.change.specs.Change.{DoesAs}
@@ -124,8 +124,8 @@ module _ (v : Node) (d : Done) (T : Storable (v .base) d) (out : List ℕ) (wide
         length-over (encodeAll (d .says)) out (omega (arith, T .brief .small)),
       )
 
-  fitting-answer : (a : Answer) → Fitting (outcomeOf a (d .says)) (length (outputOf d out))
-  unfolding outcomeOf outcomeNumbers
+  fitting-answer : (a : Answer) → Fitting (outcomeWith (d .base .own) a (d .says)) (length (outputOf d out))
+  unfolding outcomeWith outcomeNumbers
   fitting-answer accepted = fit
   fitting-answer discarded = fit
   fitting-answer (refused r) = (omega arith, (omega arith, (omega arith, (omega arith, (omega arith, (omega arith, tt))))))
@@ -135,8 +135,9 @@ module _ (v : Node) (d : Done) (T : Storable (v .base) d) (out : List ℕ) (wide
   joined-all = three-joined (withBase v (d .base)) (d .says) out (T .brief .few)
 
   written-is-answer : (a : Answer) → d .answer ≡ a
-      → writtenAnswer v (d .base) (outcomeOf a (d .says)) (outputOf d out) ≡ record { refusal = callRefusal a; node = nodeAfter v d }
-  unfolding outcomeOf outcomeNumbers writtenAnswer callRefusal
+      → writtenAnswer v (d .base) (outcomeWith (d .base .own) a (d .says)) (outputOf d out)
+      ≡ record { refusal = callRefusal a; node = nodeAfter v d }
+  unfolding outcomeWith outcomeNumbers writtenAnswer callRefusal
   written-is-answer accepted e = ap (λ (w : Node). record { refusal = 0; node = w }) joined-all
   written-is-answer discarded e = ap (λ (w : Node). record { refusal = 0; node = w }) joined-all
   written-is-answer (refused r) e = ap (λ (w : Node). record { refusal = r; node = w })

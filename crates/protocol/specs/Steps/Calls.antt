@@ -1,17 +1,21 @@
 -- The calls on one base over its life, whatever they are and however they end: the record keeps its
--- sizes, its n, t and own identifier, and stays sound. Once it has stopped it never changes again.
+-- sizes, its n, t and own identifier, and stays sound. Once it has stopped it never changes again, nor
+-- does one that is turned down.
 use Prim.Native.Nat.{ℕ}
-use mathlib.Core.Path.{_≡_, refl, ap, ap₂, _∙_}
+use mathlib.Core.Path.{_≡_, refl, sym, ap, ap₂, _∙_}
+use mathlib.Core.Logic.{_≢_}
 use mathlib.Core.Bool.{true}
 use mathlib.Core.List.{List, [], _∷_, _++_}
+use Rattle.lists.specs.Choice.Laws.{first-passed}
 use Rattle.lists.specs.Lists.{Below}
 use Rattle.frame.specs.Message.{Message}
 use Rattle.protocol.specs.declared.Base.{Base}
 use Rattle.protocol.specs.Record.Memory.{Sized}
 use Rattle.protocol.specs.Sound.{stopped, recordRefusal}
 use Rattle.protocol.specs.Sound.Kept.{Kept, same-setting, start-step-kept, arrival-step-kept}
-use Rattle.protocol.specs.Steps.{Done, refuses, start, arrival}
-use Rattle.protocol.specs.Steps.Answers.{Unchanged, stopped-start, stopped-arrival}
+use Rattle.protocol.specs.Steps.{Done, refuses, start, arrivalRefusal, arrival}
+use Rattle.protocol.specs.Steps.Answers.{Unchanged, start-number, arrival-number, start-refused, arrival-refused}
+use Rattle.protocol.specs.Steps.Answers.{stopped-start, stopped-arrival}
 use Rattle.protocol.specs.Steps.Refusals.{start-cases, arrival-cases, arrival-heard}
 use Rattle.protocol.specs.Steps.Laws.{SameSetting}
 
@@ -83,23 +87,35 @@ after-sound b (c ∷ calls) S bytes e =
     let H = call-held b c S (bytes .0) in
     after-sound (called b c .base) calls (H .sized) (bytes .1) (H .refusal e)
 
--- ---- a base that has stopped
-stopped-call : (b : Base) (c : Call) → stopped b ≡ true → Unchanged b (called b c)
-unfolding called
-stopped-call b (startCall room) e = stopped-start b room e
-stopped-call b (arrivalCall link burst room) e = stopped-arrival b link burst room e
-
-pub stopped-for-ever : (b : Base) (calls : List Call) → stopped b ≡ true → (afterCalls b calls ≡ b) × (life b calls ≡ [])
+-- ---- a base that no call changes
+unchanged-for-ever : (b : Base) → ((c : Call) → Unchanged b (called b c)) → (calls : List Call)
+    → (afterCalls b calls ≡ b) × (life b calls ≡ [])
 unfolding afterCalls life
-stopped-for-ever b [] e = (refl, refl)
-stopped-for-ever b (c ∷ calls) e = go (stopped-for-ever b calls e)
+unchanged-for-ever b same [] = (refl, refl)
+unchanged-for-ever b same (c ∷ calls) = go (unchanged-for-ever b same calls)
   where
-    same : Unchanged b (called b c)
-    same = stopped-call b c e
-
     go : (afterCalls b calls ≡ b) × (life b calls ≡ [])
         → (afterCalls (called b c .base) calls ≡ b) × (called b c .says ++ life (called b c .base) calls ≡ [])
     go r = (
-      ap (λ (x : Base). afterCalls x calls) (same .base) ∙ r .0,
-      ap₂ _++_ (same .says) (ap (λ (x : Base). life x calls) (same .base) ∙ r .1),
+      ap (λ (x : Base). afterCalls x calls) (same c .base) ∙ r .0,
+      ap₂ _++_ (same c .says) (ap (λ (x : Base). life x calls) (same c .base) ∙ r .1),
     )
+
+-- one that has stopped
+stopped-call : (b : Base) → stopped b ≡ true → (c : Call) → Unchanged b (called b c)
+unfolding called
+stopped-call b e (startCall room) = stopped-start b room e
+stopped-call b e (arrivalCall link burst room) = stopped-arrival b link burst room e
+
+pub stopped-for-ever : (b : Base) (calls : List Call) → stopped b ≡ true → (afterCalls b calls ≡ b) × (life b calls ≡ [])
+stopped-for-ever b calls e = unchanged-for-ever b (stopped-call b e) calls
+
+-- one whose record is turned down
+refused-call : (b : Base) → recordRefusal b ≢ 0 → (c : Call) → Unchanged b (called b c)
+unfolding called arrivalRefusal
+refused-call b h (startCall room) = start-refused b room (λ z. h (first-passed _ _ (sym (start-number b room) ∙ z) .0))
+refused-call b h (arrivalCall link burst room) =
+    arrival-refused b link burst room (λ z. h (first-passed _ _ (sym (arrival-number b link burst room) ∙ z) .0))
+
+pub refused-for-ever : (b : Base) (calls : List Call) → recordRefusal b ≢ 0 → (afterCalls b calls ≡ b) × (life b calls ≡ [])
+refused-for-ever b calls h = unchanged-for-ever b (refused-call b h) calls

@@ -1,11 +1,14 @@
 -- What taking a message in does to the certified identifiers: an Announce adds its
 -- identifier, and no other message changes them. So they stay different.
 use Prim.Native.Nat.{ℕ, _-_, _≤_, _<_, min}
-use mathlib.Core.Path.{_≡_, refl, ap, ap₂, _∙_}
+use mathlib.Core.Path.{_≡_, refl, sym, ap, ap₂, _∙_}
+use mathlib.Core.Logic.{_≢_}
 use mathlib.Core.Bool.{true, false}
 use mathlib.Core.List.{List, _∷_}
+use borrow.Author.Tests.{eqb-false}
 use lib.ListN.{length}
 use Rattle.limits.specs.Limits.{mostLinks}
+use Rattle.lists.specs.Choice.Laws.{or-false}
 use Rattle.lists.specs.Lists.{member, distinct, nonzero}
 use Rattle.lists.specs.Lists.Sets.{Inserted, there, inserted-distinct, nonzero-one}
 use Rattle.frame.specs.Message.{Message, announce, idsOf}
@@ -17,6 +20,11 @@ use Rattle.protocol.specs.Record.Announced.{announced-same, announced-mo
 use Rattle.protocol.specs.Steps.{withLink, withAnnounce, withVerify, withVector}
 use Rattle.protocol.specs.Steps.Cases.{Takes, takesAnnounce, takesVerify, takesCorrect, takesAndVotes, takesVerifyFinal}
 use Rattle.protocol.specs.Steps.Laws.{stored-same, stored-other, takes-rest, changed, takes-each}
+
+-- one that is not certified is another's
+pub uncertified-other : (b : Base) (g : ℕ) → member g (certified b) ≡ false → g ≢ b .own
+unfolding certified member
+uncertified-other b g e p = eqb-false (b .own) g (or-false _ _ e .0) (sym p)
 
 -- the identifiers announced at a base's links
 abbrev pub announcedTo : Base → List ℕ

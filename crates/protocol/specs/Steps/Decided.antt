@@ -26,10 +26,14 @@ pub record Roster (n : ℕ) (v : List ℕ) : Type 0 where
 pub valid-roster : {n : ℕ} {m : Message} → HoldsList m → Valid n m → Roster n (idsOf m)
 valid-roster {n} H w = record { count = w .count ∙ H n; above-zero = w .above-zero; ascends = w .ascends }
 
+pub decides-count : {c : Base} {m : Message} {state : ℕ} {v : List ℕ} → Valid (c .n) m → Decides c m state v → length v ≡ c .n
+decides-count {c} w (decidesPrime H e) = length-sort (certified c) ∙ prime-parts c e .count
+decides-count {c} w (decidesSecondary H e) = w .count ∙ H (c .n)
+
 pub decides-roster : {c : Base} {m : Message} {state : ℕ} {v : List ℕ} → 1 ≤ c .own → distinct (certified c) ≡ true → Valid (c .n) m
     → Decides c m state v → Roster (c .n) v
 decides-roster {c} some apart w (decidesPrime H e) = record {
-  count = length-sort (certified c) ∙ prime-parts c e .count;
+  count = decides-count w (decidesPrime H e);
   above-zero = nonzero-sort (certified c) ∙ nonzero-certified c some;
   ascends = ascending-sort (certified c) apart;
 }

@@ -17,6 +17,8 @@ use Rattle.counting.specs.Sums.Bounds.{bit-most, sum-none, sum-lone}
 use Rattle.frame.specs.Message.{Message, verify, idsOf}
 use Rattle.protocol.specs.declared.Link.{Link}
 use Rattle.protocol.specs.declared.Base.{Base}
+use Rattle.protocol.specs.Airtime.{ownSlots}
+use Rattle.protocol.specs.Airtime.Laws.{none-relayed, verify-relayed}
 use Rattle.protocol.specs.Links.{announces, holdsVerify, holdsCorrect}
 use Rattle.protocol.specs.Links.Laws.{no-verify, no-announce, no-correct}
 use Rattle.protocol.specs.Record.{linkAt, linkCount, links, certified, tally, tallySum, correctCount}
@@ -30,6 +32,7 @@ use Rattle.protocol.specs.Steps.{withVerify, withVector, primeHolds, vot
 use Rattle.protocol.specs.Steps.Cases.{holdingVector, Takes, takesAnnounce, takesVerify, takesCorrect, takesAndVotes}
 use Rattle.protocol.specs.Steps.Cases.{takesVerifyFinal, Decides, decidesPrime, decidesSecondary, Ends, discarding}
 use Rattle.protocol.specs.Steps.Cases.{runningOn, stopping, message-ends, begun}
+use Rattle.protocol.specs.Steps.Certified.{uncertified-other}
 use Rattle.protocol.specs.Steps.Checks.{prime-parts, secondary-parts, vote-parts}
 use Rattle.protocol.specs.Steps.Laws.{SameSetting, stored-other, takes-rest, takes-other, changed, takes-each}
 use Rattle.protocol.specs.Steps.Sizes.{Brief, bytes-one}
@@ -72,11 +75,12 @@ module _ (c : Base) (N : NetSize (c .n)) where
 abbrev pub HoldsNothing : Base → Type 0
 HoldsNothing c = (j : ℕ) → j < mostLinks → EmptyParts (linkAt c j)
 
--- it stays quiet: state and vote are as they were, and a Verify is all that it may broadcast
+-- it stays quiet: state and vote are as they were, and a Verify of another's identifier is all that it may broadcast
 pub record Quiet (c : Base) (d : Done) : Type 0 where
   pub state : d .base .state ≡ c .state
   pub sent : d .base .sent ≡ c .sent
   pub brief : Brief 1 (frameBytes 1) d
+  pub relays : ownSlots (c .own) (d .says) ≡ 0
 
 module _ (c : Base) (N : NetSize (c .n)) (few : c .t ≤ mostFaulty (c .n)) (blank : HoldsNothing c) (i : ℕ)
     (fits : i < length (c .links)) (here : i < mostLinks) where
@@ -120,18 +124,32 @@ module _ (c : Base) (N : NetSize (c .n)) (few : c .t ≤ mostFaulty (c .n)) (bla
   no-decision {m = m} {d = d} T (decidesSecondary H e) =
       omega (arith, secondary-parts d (idsOf m) e .correct, correct-most d (idsOf m) (takes-other T))
 
+  -- where nothing is broadcast
+  silent : {d : Done} → d .base .state ≡ c .state → d .base .sent ≡ c .sent → d .says ≡ [] → Quiet c d
+  unfolding encodeAll
+  silent p q e = record {
+    state = p;
+    sent = q;
+    brief = record { few = omega (arith, ap length e); small = omega (arith, ap (λ (l : List Message). length (encodeAll l)) e) };
+    relays = ap (ownSlots (c .own)) e ∙ none-relayed (c .own);
+  }
+
   takes-quiet : {m : Message} {d : Base} {said : List Message} → Takes c i m d said → Quiet c (accepts d said)
-  unfolding accepts withLink encodeAll idsOf
-  takes-quiet (takesAnnounce g p q r) =
-      record { state = refl; sent = refl; brief = record { few = omega arith; small = omega (arith, bytes-one (verify g)) } }
-  takes-quiet (takesVerify g p q) = record { state = refl; sent = refl; brief = record { few = omega arith; small = omega arith } }
-  takes-quiet (takesCorrect v o p) = record { state = refl; sent = refl; brief = record { few = omega arith; small = omega arith } }
+  unfolding accepts withLink idsOf
+  takes-quiet (takesAnnounce g p q r) = record {
+    state = refl;
+    sent = refl;
+    brief = record { few = omega arith; small = omega (arith, bytes-one (verify g)) };
+    relays = verify-relayed (c .own) g (uncertified-other c g q);
+  }
+  takes-quiet (takesVerify g p q) = silent refl refl refl
+  takes-quiet (takesCorrect v o p) = silent refl refl refl
   takes-quiet (takesAndVotes v o p) = absurd (no-vote v p)
-  takes-quiet (takesVerifyFinal v o) = record { state = refl; sent = refl; brief = record { few = omega arith; small = omega arith } }
+  takes-quiet (takesVerifyFinal v o) = silent refl refl refl
 
   ends-quiet : {m : Message} {d : Done} → Ends c i m d → Quiet c d
-  unfolding discards encodeAll
-  ends-quiet discarding = record { state = refl; sent = refl; brief = record { few = omega arith; small = omega arith } }
+  unfolding discards
+  ends-quiet discarding = silent refl refl refl
   ends-quiet (runningOn T) = takes-quiet T
   ends-quiet (stopping T D) = absurd (no-decision T D)
 

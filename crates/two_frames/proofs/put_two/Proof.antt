@@ -1,11 +1,12 @@
 -- `two_frames::put_two` meets its contract: the second frame lies in the rest of the output, right behind the first.
-use mathlib.Core.Path.{refl, sym, _∙_}
+use mathlib.Core.Path.{refl, sym, ap, _∙_}
 use native.Mathlib.Omega.{arith}
 use borrow.Author.Tests.{not-true, not-false}
 use Prim.Native.Nat.{_≤_}
 use lib.ListN.{length}
 use Rattle.lists.specs.Choice.Laws.{chosen-no}
-use Rattle.two_frames.specs.TwoFrames.{twoLengths, twoOutput}
+use Rattle.frame.specs.declared.size.FrameSize.{FrameSize}
+use Rattle.two_frames.specs.TwoFrames.{twoSizes, twoOutput}
 use Rattle.two_frames.specs.TwoFrames.Laws.{front-within, two-put}
 use borrow.Author.Needs.{needs}
 use Rattle.two_frames.proofs.put_two.Statement.{statement}
@@ -14,16 +15,19 @@ use Rattle.two_frames.proofs.put_two.Tie as tie
 two-fit-requires : tie.Need-two-fit-requires
 two-fit-requires c κs = search needs
 
+frame-size-requires : tie.Need-frame-size-requires
+frame-size-requires c κs = search needs
+
 returns : tie.Need-returns
-unfolding twoLengths twoOutput
+unfolding twoSizes twoOutput
 returns c =
-    let e = sym (c .before .two-fit .ensures) ∙ not-true _ (c .if1 .taken) in
-    (chosen-no _ e refl, chosen-no _ e refl)
+    let e = sym (c .before .before .two-fit .ensures) ∙ not-true _ (c .before .if1 .taken) in
+    (chosen-no _ e (ap (λ (s : FrameSize). record { front = s; next = s }) (c .frame-size .ensures)), chosen-no _ e refl)
 
 put-requires : tie.Need-put-requires
 put-requires c κs = search needs
 
-within : (c : tie.After-slice-known2) → c .before .before .put .result ≤ length (c .before .before .put .last .1 .1 .1 .0)
+within : (c : tie.After-slice-known2) → c .before .before .put .result .length ≤ length (c .before .before .put .last .1 .1 .1 .0)
 within c =
     let two = c .before .before .before .before in
     let fit = sym (two .before .two-fit .ensures) ∙ not-false _ (two .if1 .left) in
@@ -64,6 +68,7 @@ put-two-spec =
     tie.close
     (tie.spec
     two-fit-requires
+    frame-size-requires
     returns
     put-requires
     sub-put

@@ -3,8 +3,9 @@ use mathlib.Core.Path.{refl, sym, ap, _∙_}
 use native.Mathlib.Omega.{arith}
 use borrow.Author.Tests.{eq-eqb, ne-eqb}
 use Rattle.lists.specs.Choice.Laws.{chosen-yes, chosen-no}
+use Rattle.frame.specs.Slots.{sizeOf}
 use Rattle.framing.specs.Framing.Laws.{put-length, put-output}
-use Rattle.writer.specs.declared.Written.the-variants.{Length, Refused}
+use Rattle.writer.specs.declared.Written.the-variants.{Frame, Refused}
 use Rattle.writer.specs.Writing.{writtenOf, writeOutput}
 use Rattle.writer.specs.Writing.Laws.{write-passed}
 use borrow.Author.Needs.{needs}
@@ -39,7 +40,7 @@ returns-2 c =
     let none = sym (c .before .before .before .before .before .write-refusal .ensures) ∙ c .before .before .before .before .if1 .left in
     let e = eq-eqb _ 0 none in
     let fit = write-passed (a .n) (a .kind) (a .ids .now) _ none .fit in (
-      chosen-yes _ e (ap Length (c .before .before .put .ensures .0 ∙ put-length _ _ _ _ fit)),
+      chosen-yes _ e (ap Frame (c .before .before .put .ensures .0 ∙ ap sizeOf (put-length _ _ _ _ fit))),
       chosen-yes _ e (c .before .before .put .ensures .1 ∙ put-output _ _ _ _ fit),
     )
 

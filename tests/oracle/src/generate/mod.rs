@@ -6,6 +6,7 @@ pub mod faulty;
 pub mod forms;
 pub mod histories;
 pub mod hostile;
+pub mod lives;
 pub mod records;
 pub mod refusals;
 pub mod schedules;

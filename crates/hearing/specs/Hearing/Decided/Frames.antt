@@ -1,4 +1,4 @@
--- What is broadcast, as bytes: the frames that the code writes are the encodings of what is said, and the answer has their lengths.
+-- What is broadcast, as bytes: the frames that the code writes are the encodings of what is said, and the answer has their lengths and slots.
 use Prim.Native.Nat.{ℕ, _+_, _≤_}
 use mathlib.Core.Path.{_≡_, refl, sym, ap, ap₂, _∙_, subst}
 use mathlib.Core.Logic.{_≢_, inl, inr}
@@ -7,14 +7,16 @@ use mathlib.Core.List.{List, [], _∷_, _++_, append-nil, append-assoc}
 use native.Mathlib.Omega.{arith}
 use borrow.Author.Tests.{eq-eqb, ne-eqb}
 use lib.Dec.{eqb}
-use lib.ListN.{length, take, length-append}
+use lib.ListN.{length, take, getD, length-append}
 use lib.Seq.{length-take-le}
-use Rattle.limits.specs.Limits.{mostBases}
+use Rattle.limits.specs.Limits.{mostBases, frameSlots}
 use Rattle.lists.specs.Choice.{choose, or}
 use Rattle.lists.specs.Choice.Laws.{choose-yes, choose-no, choose-ind, clash}
 use Rattle.frame.specs.Message.{Message, correctFinal, kindOf, idsOf, known, expected, holdsOne, holdsAll}
 use Rattle.frame.specs.Message.Laws.{known-is, length-known, expected-range}
+use Rattle.lists.specs.Lists.{sumOver}
 use Rattle.frame.specs.Encoding.{frameOf, encode, over}
+use Rattle.frame.specs.Slots.{sizeOf, slotsOf}
 use Rattle.frame.specs.Encoding.Laws.{length-frame}
 use Rattle.frame.specs.Reading.{message}
 use Rattle.frame.specs.Reading.Laws.{kind-passes}
@@ -22,7 +24,9 @@ use Rattle.frame.specs.Reading.Theorems.{parts-message}
 use Rattle.frame_room.specs.Room.Laws.{fits}
 use Rattle.protocol.specs.declared.Base.{Base}
 use Rattle.protocol.specs.declared.Outcome.the-variants.{Accepted}
-use Rattle.protocol.specs.Steps.{Done, accepted, accepts, encodeAll, lengths, outcomeOf, outputOf}
+use Rattle.protocol.specs.Airtime.{ownSlots, relayedSlots}
+use Rattle.protocol.specs.Airtime.Laws.{sums-whole, none-own, final-own, slots-append}
+use Rattle.protocol.specs.Steps.{Done, accepted, accepts, encodeAll, lengths, outcomeWith, outputOf}
 use Rattle.change.specs.declared.Change.{Change}
 use Rattle.change.specs.Change.{changedBase, Does}
 use Rattle.change.specs.Heard.{messageIn}
@@ -51,19 +55,40 @@ frame-some : (m : Message) → length (encode m) ≢ 0
 unfolding encode
 frame-some m z = omega (arith, length-frame (kindOf m) (idsOf m))
 
-two-said : (a b : List Message) → length a ≤ 1 → length b ≤ 1
-    → acceptedWith (length (encodeAll a)) (length (encodeAll b)) ≡ outcomeOf accepted (a ++ b)
-unfolding acceptedWith outcomeOf lengths choose encodeAll
-two-said [] [] p q = refl
-two-said [] (m ∷ []) p q = ap (λ (f : List ℕ). Accepted (length f) 0 0) (append-nil (encode m))
-two-said (m ∷ []) [] p q =
-    ap (λ (f : List ℕ). acceptedWith (length f) 0) (append-nil (encode m)) ∙ choose-no _ _ (ne-eqb _ 0 (frame-some m))
-two-said (m ∷ []) (k ∷ []) p q =
-    ap₂ (λ (f g : List ℕ). acceptedWith (length f) (length g)) (append-nil (encode m)) (append-nil (encode k))
-    ∙ choose-no _ _ (ne-eqb _ 0 (frame-some m))
-two-said (m ∷ (k ∷ a)) b p q = absurd (omega arith)
-two-said [] (m ∷ (k ∷ b)) p q = absurd (omega arith)
-two-said (m ∷ []) (k ∷ (j ∷ b)) p q = absurd (omega arith)
+two-lengths : (a b : List Message) → length a ≤ 1 → length b ≤ 1 → (own relayed : ℕ)
+    → choose (eqb (length (encodeAll a)) 0)
+    (Accepted (length (encodeAll b)) 0 0 own relayed) (Accepted (length (encodeAll a)) (length (encodeAll b)) 0 own relayed)
+    ≡ Accepted (getD (lengths (a ++ b)) 0 0) (getD (lengths (a ++ b)) 1 0) (getD (lengths (a ++ b)) 2 0) own relayed
+unfolding lengths choose encodeAll
+two-lengths [] [] p q own relayed = refl
+two-lengths [] (m ∷ []) p q own relayed = ap (λ (f : List ℕ). Accepted (length f) 0 0 own relayed) (append-nil (encode m))
+two-lengths (m ∷ []) [] p q own relayed =
+    choose-no _ _ (ne-eqb _ 0 (λ z. frame-some m (sym (ap length (append-nil (encode m))) ∙ z)))
+    ∙ ap (λ (f : List ℕ). Accepted (length f) 0 0 own relayed) (append-nil (encode m))
+two-lengths (m ∷ []) (k ∷ []) p q own relayed =
+    choose-no _ _ (ne-eqb _ 0 (λ z. frame-some m (sym (ap length (append-nil (encode m))) ∙ z)))
+    ∙ ap₂ (λ (f g : List ℕ). Accepted (length f) (length g) 0 own relayed) (append-nil (encode m)) (append-nil (encode k))
+two-lengths (m ∷ (k ∷ a)) b p q own relayed = absurd (omega arith)
+two-lengths [] (m ∷ (k ∷ b)) p q own relayed = absurd (omega arith)
+two-lengths (m ∷ []) (k ∷ (j ∷ b)) p q own relayed = absurd (omega arith)
+
+-- the slots of one frame, or of none
+one-slots : (l : List Message) → length l ≤ 1 → sumOver l slotsOf ≡ frameSlots (length (encodeAll l))
+unfolding sumOver slotsOf encodeAll
+one-slots [] h = refl
+one-slots (m ∷ []) h = omega (arith, length-append (encode m) [])
+one-slots (m ∷ (k ∷ l)) h = absurd (omega arith)
+
+-- what is relayed, and behind it what is the base's own
+two-said : (own : ℕ) (a b : List Message) → length a ≤ 1 → length b ≤ 1 → ownSlots own a ≡ 0 → relayedSlots own b ≡ 0
+    → acceptedWith (sizeOf (length (encodeAll a))) (sizeOf (length (encodeAll b))) ≡ outcomeWith own accepted (a ++ b)
+unfolding acceptedWith outcomeWith
+two-said own a b p q u v =
+    let s = slots-append own a b in
+    two-lengths a b p q (frameSlots (length (encodeAll b))) (frameSlots (length (encodeAll a)))
+    ∙ ap₂ (λ (x y : ℕ).
+    Accepted (getD (lengths (a ++ b)) 0 0) (getD (lengths (a ++ b)) 1 0) (getD (lengths (a ++ b)) 2 0) x y)
+    (omega (arith, s .0, one-slots b q, sums-whole own b)) (omega (arith, s .1, one-slots a p, sums-whole own a))
 
 few-first-said : (n first : ℕ) (ids : List ℕ) → length (firstSaid n first ids) ≤ 1
 unfolding firstSaid
@@ -72,6 +97,11 @@ few-first-said n first ids = choose-ind (λ (l : List Message). length l ≤ 1) 
 few-last-said : (n : ℕ) (stops : Bool) (list : List ℕ) → length (lastSaid n stops list) ≤ 1
 unfolding lastSaid
 few-last-said n stops list = choose-ind (λ (l : List Message). length l ≤ 1) stops (λ _. omega arith) (λ _. omega arith)
+
+last-own : (own n : ℕ) (stops : Bool) (list : List ℕ) → relayedSlots own (lastSaid n stops list) ≡ 0
+unfolding lastSaid
+last-own own n stops list =
+    choose-ind (λ (l : List Message). relayedSlots own l ≡ 0) stops (λ _. final-own own (take n list)) (λ _. none-own own)
 
 -- ---- the frames
 -- a frame that there is room for
@@ -132,7 +162,7 @@ last-frame n false list room l most h = sym encode-none
 -- ---- the answer and the output of a message that was accepted
 module _ (b c : Base) (D : Decision) (ids output : List ℕ) (F : FirstKind (D .first)) (some : 1 ≤ c .n) (most : c .n ≤ mostBases)
     (z : length ids ≡ mostBases) (l : D .stops ≡ true → length (take (c .n) (D .«final_list»)) ≡ c .n)
-    (h : length (encodeAll (saidBy (c .n) D ids)) ≤ length output) where
+    (o : ownSlots (c .own) (firstSaid (c .n) (D .first) ids) ≡ 0) (h : length (encodeAll (saidBy (c .n) D ids)) ≤ length output) where
   front : List ℕ
   front = encodeAll (firstSaid (c .n) (D .first) ids)
 
@@ -156,17 +186,18 @@ module _ (b c : Base) (D : Decision) (ids output : List ℕ) (F : FirstKind (D .
       last-frame (c .n) (D .stops) (D .«final_list») _ l most (omega (arith, room, ap length first-is))
 
   pub said-does : (r : Change) (after : List ℕ)
-      → r .outcome ≡ acceptedWith (length (frameIn (c .n) (D .first) ids (length output)))
-      (length (lastFrame (c .n) (D .first) ids (D .stops) (D .«final_list») (length output)))
+      → r .outcome ≡ acceptedWith (sizeOf (length (frameIn (c .n) (D .first) ids (length output))))
+      (sizeOf (length (lastFrame (c .n) (D .first) ids (D .stops) (D .«final_list») (length output))))
       → after ≡ over (frameIn (c .n) (D .first) ids (length output)
       ++ lastFrame (c .n) (D .first) ids (D .stops) (D .«final_list») (length output)) output
       → changedBase b r ≡ decidedBase c D → Does b (accepts (decidedBase c D) (saidBy (c .n) D ids)) r output after
-  unfolding accepts outputOf saidBy front back
+  unfolding accepts decidedBase outputOf saidBy front back
   said-does r after p q k = record {
     changes = record {
-      outcome = p ∙ ap₂ (λ (f g : List ℕ). acceptedWith (length f) (length g)) first-is last-is
-          ∙ two-said (firstSaid (c .n) (D .first) ids) (lastSaid (c .n) (D .stops) (D .«final_list»))
-          (few-first-said (c .n) (D .first) ids) (few-last-said (c .n) (D .stops) (D .«final_list»));
+      outcome = p ∙ ap₂ (λ (f g : List ℕ). acceptedWith (sizeOf (length f)) (sizeOf (length g))) first-is last-is
+          ∙ two-said (c .own) (firstSaid (c .n) (D .first) ids) (lastSaid (c .n) (D .stops) (D .«final_list»))
+          (few-first-said (c .n) (D .first) ids) (few-last-said (c .n) (D .stops) (D .«final_list»))
+          o (last-own (c .own) (c .n) (D .stops) (D .«final_list»));
       base = k;
     };
     written = q ∙ ap (λ (f : List ℕ). over f output) (ap₂ _++_ first-is last-is ∙ sym bytes);

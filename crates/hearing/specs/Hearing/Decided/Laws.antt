@@ -11,7 +11,7 @@ use lib.ListN.{length, take, getD}
 use lib.Seq.{length-take-le}
 use Rattle.limits.specs.Limits.{mostBases}
 use Rattle.lists.specs.Choice.{choose, or}
-use Rattle.lists.specs.Choice.Laws.{choose-yes, choose-no}
+use Rattle.lists.specs.Choice.Laws.{choose-yes, choose-no, or-false}
 use Rattle.lists.specs.Lists.{member, sort, padTo}
 use Rattle.lists.specs.Lists.Laws.{pad-front}
 use Rattle.lists.specs.Lists.Sorted.{length-sort}
@@ -20,11 +20,14 @@ use Rattle.frame.specs.Message.Laws.{Kind, known-is}
 use Rattle.frame.specs.Reading.{message}
 use Rattle.protocol.specs.declared.Link.{Link}
 use Rattle.protocol.specs.declared.Base.{Base}
+use Rattle.protocol.specs.Airtime.{ownSlots}
+use Rattle.protocol.specs.Airtime.Laws.{none-relayed, verify-relayed, vote-relayed}
 use Rattle.protocol.specs.Links.{announces, holdsVerify, full}
 use Rattle.protocol.specs.Record.{linkAt, linkCount, links, listTally, correctCount, certified}
 use Rattle.protocol.specs.Steps.{Done, accepts, discards, withLink, withSent, withState, withFinal, withAnnounce, withVerify, withVector}
 use Rattle.protocol.specs.Steps.{primeHolds, secondaryHolds, stops, primeCheck, secondaryCheck, onAnnounce, onVerify, votes, vote}
 use Rattle.protocol.specs.Steps.{onCorrectFinal, onVerifyFinal, onMessage}
+use Rattle.protocol.specs.Steps.Certified.{uncertified-other}
 use Rattle.protocol.specs.Steps.Checks.{prime-parts}
 use Rattle.change.specs.Heard.{HoldsFirst, MessageIn, messageIn}
 use Rattle.change.specs.Heard.Laws.{kind-one, kind-two, kind-three, kind-four}
@@ -39,14 +42,15 @@ use Rattle.hearing.specs.Hearing.Decided.{decidedBase, firstSaid, lastSa
 abbrev pub FirstKind : ℕ → Type 0
 FirstKind first = (first ≡ 0) ⊎ (known first ≡ true)
 
--- to the base and to what it broadcasts; a list that stops it has n identifiers
+-- to the base and to what it broadcasts; a list that stops it has n identifiers, and a frame before the check is relayed
 pub record DecidedAs (c : Base) (d : Decision) (ids : List ℕ) (k : Done) : Type 0 where
   pub done : k ≡ accepts (decidedBase c d) (saidBy (c .n) d ids)
   pub list : d .stops ≡ true → length (take (c .n) (d .«final_list»)) ≡ c .n
   pub first : FirstKind (d .first)
+  pub relays : ownSlots (c .own) (firstSaid (c .n) (d .first) ids) ≡ 0
 
 runs-decides : (c : Base) (first sent : ℕ) (ids : List ℕ) (said : List Message) → FirstKind first
-    → firstSaid (c .n) first ids ≡ said
+    → firstSaid (c .n) first ids ≡ said → ownSlots (c .own) said ≡ 0
     → DecidedAs c (runsOn c first sent) ids
     (accepts (record {
       n = c .n;
@@ -58,21 +62,23 @@ runs-decides : (c : Base) (first sent : ℕ) (ids : List ℕ) (said : List Messa
       links = c .links;
     }) said)
 unfolding decidedBase saidBy lastSaid runsOn choose
-runs-decides c first sent ids said F e = record {
+runs-decides c first sent ids said F e o = record {
   first = F;
+  relays = ap (ownSlots (c .own)) e ∙ o;
   done = ap (accepts _) (sym e ∙ sym (append-nil _));
   list = λ z. absurd (let q : _≡_ {A = Bool} false true = z in let w : _≡_ {A = ℕ} 0 1 = cc in omega arith);
 }
 
 stops-decides : (c : Base) (first sent state : ℕ) (ids list v : List ℕ) (said : List Message)
-    → FirstKind first → firstSaid (c .n) first ids ≡ said
+    → FirstKind first → firstSaid (c .n) first ids ≡ said → ownSlots (c .own) said ≡ 0
     → list ≡ padTo mostBases v → take (c .n) list ≡ v → length v ≡ c .n
     → DecidedAs c (stopsWith first sent state list) ids
     (stops (record { n = c .n; t = c .t; state = c .state; sent = sent; own = c .own; «final_list» = c .«final_list»; links = c .links })
     state v said)
 unfolding decidedBase saidBy lastSaid stopsWith choose stops withState withFinal
-stops-decides c first sent state ids list v said F e p q l = record {
+stops-decides c first sent state ids list v said F e o p q l = record {
   first = F;
+  relays = ap (ownSlots (c .own)) e ∙ o;
   done = λ j. accepts
       (record { n = c .n; t = c .t; state = state; sent = sent; own = c .own; «final_list» = sym p j; links = c .links })
       (sym e j ++ (correctFinal (sym q j) ∷ []));
@@ -80,7 +86,8 @@ stops-decides c first sent state ids list v said F e p q l = record {
 }
 
 -- ---- the checks
-module _ (c : Base) (first : ℕ) (ids : List ℕ) (said : List Message) (F : FirstKind first) (e : firstSaid (c .n) first ids ≡ said) where
+module _ (c : Base) (first : ℕ) (ids : List ℕ) (said : List Message) (F : FirstKind first) (e : firstSaid (c .n) first ids ≡ said)
+    (o : ownSlots (c .own) said ≡ 0) where
   pub prime-decides : DecidedAs c (primeDecision c first) ids (primeCheck c said)
   unfolding primeCheck primeDecision choose
   prime-decides = go (primeHolds c) refl
@@ -93,8 +100,8 @@ module _ (c : Base) (first : ℕ) (ids : List ℕ) (said : List Message) (F : Fi
           ids (choose t (stops c 2 v said) (accepts c said))
       go true h =
           let l : length v ≡ c .n = length-sort (certified c) ∙ prime-parts c h .count in
-          stops-decides c first (c .sent) 2 ids (padTo mostBases v) v said F e refl (pad-front mostBases v (c .n) l) l
-      go false h = runs-decides c first (c .sent) ids said F e
+          stops-decides c first (c .sent) 2 ids (padTo mostBases v) v said F e o refl (pad-front mostBases v (c .n) l) l
+      go false h = runs-decides c first (c .sent) ids said F e o
 
   -- on the base with sent set
   pub secondary-decides : (sent : ℕ) → HoldsFirst (c .n) ids → length (take (c .n) ids) ≡ c .n
@@ -111,8 +118,8 @@ module _ (c : Base) (first : ℕ) (ids : List ℕ) (said : List Message) (F : Fi
       go : (t : Bool)
           → DecidedAs c (choose t (stopsWith first sent 3 ids) (runsOn c first sent))
           ids (choose t (stops x 3 (take (c .n) ids) said) (accepts x said))
-      go true = stops-decides c first sent 3 ids ids (take (c .n) ids) said F e h refl l
-      go false = runs-decides c first sent ids said F e
+      go true = stops-decides c first sent 3 ids ids (take (c .n) ids) said F e o h refl l
+      go false = runs-decides c first sent ids said F e o
 
 -- ---- a message, by its kind
 -- it is discarded by a test, or the link is then `after`
@@ -122,7 +129,7 @@ record Split (b : Base) (i kind : ℕ) (ids : List ℕ) : Type 0 where
   pub follows : Done
   pub accepted : acceptedOn (b .n) (member (getD ids 0 0) (certified b)) (linkAt b i) kind ids ≡ unlessDiscarded dropped (linkAt b i) after
   pub step : onMessage b i (messageIn (b .n) kind ids) ≡ choose dropped (discards b) follows
-  pub decides : DecidedAs (withLink b i after) (decisionOf (withLink b i after) kind ids) ids follows
+  pub decides : dropped ≡ false → DecidedAs (withLink b i after) (decisionOf (withLink b i after) kind ids) ids follows
 
 first-of-one : (ids : List ℕ) → getD (take 1 ids) 0 0 ≡ getD ids 0 0
 first-of-one [] = refl
@@ -167,8 +174,10 @@ module _ (b : Base) (i : ℕ) (ids : List ℕ) where
         follows = primeCheck c (verify (getD ids 0 0) ∷ []);
         accepted = kind-one _ _ _ _ _ e;
         step = rw (e, first-of-one ids) refl;
-        decides = subst (λ (d : Decision). DecidedAs c d ids (primeCheck c (verify (getD ids 0 0) ∷ []))) (sym (kind-one _ _ _ _ _ e))
-            (prime-decides c 2 ids (verify (getD ids 0 0) ∷ []) verify-first (said-verify (b .n) ids));
+        decides = λ kept. subst (λ (d : Decision). DecidedAs c d ids (primeCheck c (verify (getD ids 0 0) ∷ [])))
+            (sym (kind-one _ _ _ _ _ e)) (prime-decides c 2 ids (verify (getD ids 0 0) ∷ []) verify-first (said-verify (b .n) ids)
+            (verify-relayed (b .own) (getD ids 0 0)
+            (uncertified-other b (getD ids 0 0) (or-false _ _ (or-false (announces (linkAt b i)) _ kept .1) .0))));
       }
 
   split-verify : {kind : ℕ} → kind ≡ 2 → Split b i kind ids
@@ -181,8 +190,8 @@ module _ (b : Base) (i : ℕ) (ids : List ℕ) where
         follows = primeCheck c [];
         accepted = kind-two _ _ _ _ _ e;
         step = rw (e, first-of-one ids) refl;
-        decides = subst (λ (d : Decision). DecidedAs c d ids (primeCheck c [])) (sym (kind-two _ _ _ _ _ e))
-            (prime-decides c 0 ids [] (inl refl) (said-none (b .n) ids));
+        decides = λ _. subst (λ (d : Decision). DecidedAs c d ids (primeCheck c [])) (sym (kind-two _ _ _ _ _ e))
+            (prime-decides c 0 ids [] (inl refl) (said-none (b .n) ids) (none-relayed (b .own)));
       }
 
   module _ (h : HoldsFirst (b .n) ids) (l : length (take (b .n) ids) ≡ b .n) where
@@ -203,8 +212,9 @@ module _ (b : Base) (i : ℕ) (ids : List ℕ) where
         go : (t : Bool) → DecidedAs c (choose t (secondaryDecision c 4 1 ids) (secondaryDecision c 0 (c .sent) ids)) ids
             (let d = choose t (accepts (withSent c) (verifyFinal (take (c .n) ids) ∷ [])) (accepts c []) in
             secondaryCheck (d .base) (take (c .n) ids) (d .says))
-        go true = secondary-decides c 4 ids (verifyFinal (take (c .n) ids) ∷ []) vote-first (said-vote (c .n) ids) 1 h′ l′
-        go false = secondary-decides c 0 ids [] (inl refl) (said-none (c .n) ids) (c .sent) h′ l′
+        go true = secondary-decides c 4 ids (verifyFinal (take (c .n) ids) ∷ []) vote-first (said-vote (c .n) ids)
+            (vote-relayed (c .own) (take (c .n) ids)) 1 h′ l′
+        go false = secondary-decides c 0 ids [] (inl refl) (said-none (c .n) ids) (none-relayed (c .own)) (c .sent) h′ l′
 
     split-correct : {kind : ℕ} → kind ≡ 3 → Split b i kind ids
     unfolding acceptedOn onVectorLink decisionOf messageIn message expected holdsOne or choose onMessage onCorrectFinal withLink
@@ -218,7 +228,7 @@ module _ (b : Base) (i : ℕ) (ids : List ℕ) where
           accepted = kind-three _ _ _ _ _ e;
           step = rw e (ap (λ (x : Link). choose (eqb (linkAt b i .held) 3) (discards b) (next (withLink b i x)))
               (vector-link (b .n) 3 (linkAt b i) ids h));
-          decides = subst (λ (d : Decision). DecidedAs c d ids (next c)) (sym (kind-three _ _ _ _ _ e)) (vote-decides c refl);
+          decides = λ _. subst (λ (d : Decision). DecidedAs c d ids (next c)) (sym (kind-three _ _ _ _ _ e)) (vote-decides c refl);
         }
 
     split-verify-final : {kind : ℕ} → kind ≡ 4 → Split b i kind ids
@@ -233,8 +243,8 @@ module _ (b : Base) (i : ℕ) (ids : List ℕ) where
           accepted = kind-four _ _ _ _ _ e;
           step = rw e (ap (λ (x : Link). choose (not (eqb (linkAt b i .held) 0)) (discards b) (next (withLink b i x)))
               (vector-link (b .n) 4 (linkAt b i) ids h));
-          decides = subst (λ (d : Decision). DecidedAs c d ids (next c)) (sym (kind-four _ _ _ _ _ e))
-              (secondary-decides c 0 ids [] (inl refl) (said-none (b .n) ids) (c .sent) h l);
+          decides = λ _. subst (λ (d : Decision). DecidedAs c d ids (next c)) (sym (kind-four _ _ _ _ _ e))
+              (secondary-decides c 0 ids [] (inl refl) (said-none (b .n) ids) (none-relayed (b .own)) (c .sent) h l);
         }
 
 -- kinds 3 and 4: the array holds n identifiers
@@ -301,4 +311,4 @@ module _ (b : Base) (i kind : ℕ)
       let k : S .after ≡ a .link = sym (ap (λ (x : Accepted). x .link) q ∙ y .1) in
       subst (λ (d : Done). let c = withLink b i (a .link) in DecidedAs c (decisionOf c kind ids) ids d)
       (sym (S .step ∙ choose-no _ _ (y .0)))
-      (subst (λ (x : Link). DecidedAs (withLink b i x) (decisionOf (withLink b i x) kind ids) ids (S .follows)) k (S .decides))
+      (subst (λ (x : Link). DecidedAs (withLink b i x) (decisionOf (withLink b i x) kind ids) ids (S .follows)) k (S .decides (y .0)))

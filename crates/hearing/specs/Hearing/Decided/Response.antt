@@ -9,12 +9,14 @@ use lib.Seq.{set-getD}
 use Rattle.limits.specs.Limits.{mostBases}
 use Rattle.limits.specs.Refusals.{NetSize}
 use Rattle.lists.specs.Choice.Laws.{choose-yes, choose-no}
+use Rattle.lists.specs.Lists.{sumOver}
 use Rattle.frame.specs.Encoding.{over}
 use Rattle.protocol.specs.declared.Link.{Link}
 use Rattle.protocol.specs.declared.Base.{Base}
+use Rattle.protocol.specs.Airtime.{ownSlots, relayedSlots}
 use Rattle.protocol.specs.Links.{noLink}
 use Rattle.protocol.specs.Record.{linkAt, linkCount, certified}
-use Rattle.protocol.specs.Steps.{discarded, Done, discards, withLink, withState, onMessage, encodeAll, outcomeOf, lengths, outputOf}
+use Rattle.protocol.specs.Steps.{discarded, Done, discards, withLink, withState, onMessage, encodeAll, outcomeWith, lengths, outputOf}
 use Rattle.protocol.specs.Steps.Cases.{begun}
 use Rattle.change.specs.declared.Change.{Change}
 use Rattle.change.specs.Change.{changedBase, Does}
@@ -51,7 +53,7 @@ module _ (b : Base) (i kind : ℕ) (ids output : List ℕ)
       let K = subst (λ (d : Decision). DecidedAs x d ids m) (sym g)
       (accepted-by-link (begun b) i kind ids z (N .most) M a e t) in
       does-as (K .done)
-      (said-does b x D ids output (K .first) (omega (arith, N .least)) (N .most) z (K .list) (said-room _ _ _ (K .done) h)
+      (said-does b x D ids output (K .first) (omega (arith, N .least)) (N .most) z (K .list) (K .relays) (said-room _ _ _ (K .done) h)
       r after (ap (λ (c : Change). c .outcome) p ∙ choose-yes _ _ t) (q ∙ ap (λ (s : List ℕ). over s output) (choose-yes _ _ t))
       (ap (changedBase b) p))
 
@@ -65,8 +67,8 @@ module _ (b : Base) (i kind : ℕ) (ids output : List ℕ)
       ∙ ap (λ (l : Link). withLink (begun b) i l) (link-kept (begun b) i kind ids z (N .most) M a e t)
       ∙ ap linksAt (set-getD (b .links) i noLink)
 
-  quiet : a .accepted ≡ false → r .outcome ≡ outcomeOf discarded []
-  unfolding responseOutcome responseChange outcomeOf lengths
+  quiet : a .accepted ≡ false → r .outcome ≡ outcomeWith (b .own) discarded []
+  unfolding responseOutcome responseChange outcomeWith lengths ownSlots relayedSlots sumOver
   quiet t = ap (λ (c : Change). c .outcome) p ∙ choose-no _ _ t
 
   no : a .accepted ≡ false → Does b m r output after
