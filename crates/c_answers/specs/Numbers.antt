@@ -1,5 +1,6 @@
 -- What the calls answer, as numbers. Document 01: "Its answer is accepted or discarded, with each frame's length"; "Each returns its
 -- number". Document 02, request 2: "Start and arrival also answer with two sums".
+use Prim.Native.Nat.{ℕ}
 use Rattle.protocol.specs.declared.Outcome.{Outcome}
 use Rattle.protocol.specs.declared.Outcome.the-variants.{Accepted, Discarded, Refused}
 use Rattle.protocol.specs.declared.Leader.{Leader}
@@ -10,12 +11,15 @@ use Rattle.c_answers.specs.declared.CallAnswer.{CallAnswer}
 use Rattle.c_answers.specs.declared.LeaderAnswer.{LeaderAnswer}
 use Rattle.c_answers.specs.declared.WriteAnswer.{WriteAnswer}
 
--- accepted is 1, discarded is 2, turned down is 0; a call that is turned down has no frames and no slots
+-- of a call that was not turned down: accepted is 1, discarded is 2
+abbrev pub inNumbers : ℕ → ℕ → ℕ → ℕ → ℕ → ℕ → CallAnswer
+inNumbers outcome first second third own relayed =
+    record { outcome = outcome; refusal = 0; first = first; second = second; third = third; own = own; relayed = relayed }
+
+-- turned down is 0, with no frames and no slots
 unfoldable pub outcomeNumbers : Outcome → CallAnswer
-outcomeNumbers (Accepted a b c own relayed) =
-    record { outcome = 1; refusal = 0; first = a; second = b; third = c; own = own; relayed = relayed }
-outcomeNumbers (Discarded a b c own relayed) =
-    record { outcome = 2; refusal = 0; first = a; second = b; third = c; own = own; relayed = relayed }
+outcomeNumbers (Accepted a b c own relayed) = inNumbers 1 a b c own relayed
+outcomeNumbers (Discarded a b c own relayed) = inNumbers 2 a b c own relayed
 outcomeNumbers (Refused r) = record { outcome = 0; refusal = r; first = 0; second = 0; third = 0; own = 0; relayed = 0 }
 
 -- a leader named is 1, not stopped is 2, turned down is 0

@@ -3,7 +3,7 @@ use protocol::Leader;
 use protocol::Outcome;
 use writer::Written;
 ghost use mathlib.Core.Path.{_≡_};
-ghost use Rattle.c_answers.specs.Numbers.{outcomeNumbers, leaderNumbers, writtenNumbers};
+ghost use Rattle.c_answers.specs.Numbers.{inNumbers, outcomeNumbers, leaderNumbers, writtenNumbers};
 
 // How a start or an arrival ended, and whether a base names a leader.
 pub const REFUSED: u8 = 0;
@@ -51,6 +51,28 @@ pub struct WriteAnswer {
     pub slots: usize,
 }
 
+// Of a call that was not turned down.
+fn in_numbers(
+    outcome: u8,
+    first: usize,
+    second: usize,
+    third: usize,
+    own: usize,
+    relayed: usize,
+) -> CallAnswer
+    ensures { λ r. ⌜ r ≡ inNumbers outcome first second third own relayed ⌝ }
+{
+    CallAnswer {
+        outcome,
+        refusal: 0,
+        first,
+        second,
+        third,
+        own,
+        relayed,
+    }
+}
+
 pub fn outcome_numbers(outcome: Outcome) -> CallAnswer
     ensures { λ r. ⌜ r ≡ outcomeNumbers outcome ⌝ }
 {
@@ -61,30 +83,14 @@ pub fn outcome_numbers(outcome: Outcome) -> CallAnswer
             third,
             own,
             relayed,
-        } => CallAnswer {
-            outcome: ACCEPTED,
-            refusal: 0,
-            first,
-            second,
-            third,
-            own,
-            relayed,
-        },
+        } => in_numbers(ACCEPTED, first, second, third, own, relayed),
         Outcome::Discarded {
             first,
             second,
             third,
             own,
             relayed,
-        } => CallAnswer {
-            outcome: DISCARDED,
-            refusal: 0,
-            first,
-            second,
-            third,
-            own,
-            relayed,
-        },
+        } => in_numbers(DISCARDED, first, second, third, own, relayed),
         Outcome::Refused(number) => CallAnswer {
             outcome: REFUSED,
             refusal: number,

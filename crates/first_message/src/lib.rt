@@ -40,7 +40,7 @@ fn behind_start(start: StartSizes, outcome: Outcome) -> Outcome
             first: start.announce,
             second: start.verify,
             third: first,
-            own: start.slots,
+            own: start.slots, // the frames of a start are sent all the same
             relayed,
         },
         Outcome::Refused(number) => Outcome::Refused(number),

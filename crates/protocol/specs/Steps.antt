@@ -210,13 +210,16 @@ unfoldable pub lengths : List Message → List ℕ
 lengths [] = []
 lengths (m ∷ ms) = length (encode m) ∷ lengths ms
 
--- "Its answer is accepted or discarded, with each frame's length". "Start and arrival also answer with two sums over that call's frames":
--- own and relayed, at a base with that identifier (document 02, request 2)
+-- "with each frame's length". "Start and arrival also answer with two sums over that call's frames": own and relayed, at a base with that
+-- identifier (document 02, request 2)
+abbrev pub withSums : (ℕ → ℕ → ℕ → ℕ → ℕ → Outcome) → ℕ → List Message → Outcome
+withSums ends own says =
+    ends (getD (lengths says) 0 0) (getD (lengths says) 1 0) (getD (lengths says) 2 0) (ownSlots own says) (relayedSlots own says)
+
+-- "Its answer is accepted or discarded"
 unfoldable pub outcomeWith : ℕ → Answer → List Message → Outcome
-outcomeWith own accepted says = Accepted
-    (getD (lengths says) 0 0) (getD (lengths says) 1 0) (getD (lengths says) 2 0) (ownSlots own says) (relayedSlots own says)
-outcomeWith own discarded says = Discarded
-    (getD (lengths says) 0 0) (getD (lengths says) 1 0) (getD (lengths says) 2 0) (ownSlots own says) (relayedSlots own says)
+outcomeWith own accepted says = withSums Accepted own says
+outcomeWith own discarded says = withSums Discarded own says
 outcomeWith own (refused r) says = Refused r
 
 abbrev pub outcomeOf : Done → Outcome
