@@ -1,6 +1,6 @@
 //! Which part of a trace is drawn: some lines of the schedule, some bases, with or without what stopped bases throw away.
 
-use crate::trace::{End, Event, State, Trace};
+use crate::trace::{spent, End, Event, Slots, State, Trace};
 
 #[derive(Clone, Default)]
 pub struct Cut {
@@ -23,6 +23,8 @@ pub struct Shown {
     pub told_on_a_page: Option<String>,
     /// The states behind the last line of the cut.
     pub states: Vec<State>,
+    /// What each base has spent by then, from the beginning of the schedule.
+    pub slots: Vec<Slots>,
     /// Whether the schedule's end is drawn.
     pub whole_end: bool,
 }
@@ -46,9 +48,10 @@ impl Cut {
             End::Report { bases, .. } if whole_end => bases.clone(),
             _ => trace.states_after(until),
         };
+        let slots = spent(&trace.events[..until], trace.n());
         let told = Cut { lines: self.lines.map(|(first, last)| (first, last.min(trace.last_line).max(first))), ..self.clone() }.told();
         let told_on_a_page = Cut { lines: None, ..self.clone() }.told();
-        Ok(Shown { events, bases, told, told_on_a_page, states, whole_end })
+        Ok(Shown { events, bases, told, told_on_a_page, states, slots, whole_end })
     }
 
     /// Why nothing is left to draw: the lines are no events, or the other options leave out what happens there.

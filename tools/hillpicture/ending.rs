@@ -1,4 +1,5 @@
-//! The end of the picture: each base's state under its line, then the lists in full with who holds them, and the line that was refused.
+//! The end of the picture: each base's state and slots under its line, then the lists in full with who holds them, what slots are, and the
+//! line that was refused.
 
 use crate::chart::Chart;
 use crate::cut::{bases_in_words, Shown};
@@ -6,25 +7,30 @@ use crate::layout::{wrapped_to, MARGIN, PLAIN};
 use crate::names::{Names, NO_BREAK};
 use crate::refusal_box;
 use crate::svg::{Anchor, Svg};
-use crate::trace::{End, State, Stop, Trace};
+use crate::trace::{End, Slots, State, Stop, Trace};
 
 pub const LINE: i32 = 18;
+/// In a box, the state with a list and its leader, or without, and the slots below.
+const STOPPED: i32 = 64;
+const NOT_STOPPED: i32 = 24;
+const SLOTS: i32 = 48;
 /// The boxes, and the sentences under them, on a page of their own at the worst.
-pub const BOXES: i32 = 64;
+pub const BOXES: i32 = STOPPED + SLOTS;
 
 impl Chart<'_> {
     /// A box under each base's line. Answers how far down they reach.
     pub fn draw_end_boxes(&self, svg: &mut Svg, top: i32) -> i32 {
         let stopped = self.shown.states.iter().any(|state| matches!(state, State::Stopped(_)));
-        let height = if stopped { BOXES } else { 24 };
+        let middle = top + if stopped { STOPPED } else { NOT_STOPPED };
         for &b in &self.shown.bases {
-            self.draw_end_box(svg, b, &self.shown.states[b - 1], top, height);
+            let Some(x) = self.columns.base(b) else { continue };
+            self.draw_end_box(svg, &self.shown.states[b - 1], x, top, middle);
+            draw_slots(svg, self.shown.slots[b - 1], x, middle);
         }
-        top + height
+        middle + SLOTS
     }
 
-    fn draw_end_box(&self, svg: &mut Svg, b: usize, state: &State, top: i32, height: i32) {
-        let Some(x) = self.columns.base(b) else { return };
+    fn draw_end_box(&self, svg: &mut Svg, state: &State, x: i32, top: i32, middle: i32) {
         let (left, width) = (x - self.columns.gap / 2 + 5, self.columns.gap - 10);
         let (class, word) = match state {
             State::Idle => ("unfinished", "idle"),
@@ -32,7 +38,8 @@ impl Chart<'_> {
             State::Stopped(Stop { prime: true, .. }) => ("head", "prime"),
             State::Stopped(_) => ("head", "secondary"),
         };
-        svg.rect(class, left, top, width, height);
+        svg.rect(class, left, top, width, middle + SLOTS - top);
+        svg.line("rule", (left + 6, middle), (left + width - 6, middle));
         svg.text("bold", Anchor::Middle, x, top + 15, word);
         if let State::Stopped(stop) = state {
             svg.text("", Anchor::Middle, x, top + 30, &format!("list {}", self.names.list(&stop.list)));
@@ -40,6 +47,12 @@ impl Chart<'_> {
             svg.text("fixed", Anchor::Middle, x, top + 57, &stop.leader.to_string());
         }
     }
+}
+
+fn draw_slots(svg: &mut Svg, slots: Slots, x: i32, top: i32) {
+    svg.text("bold", Anchor::Middle, x, top + 15, &format!("slots {}", slots.together()));
+    svg.text("", Anchor::Middle, x, top + 29, &format!("own {}", slots.own));
+    svg.text("", Anchor::Middle, x, top + 42, &format!("relayed {}", slots.relayed));
 }
 
 /// Of those that something waits between; more are left to the trace.
@@ -68,16 +81,18 @@ pub fn height(trace: &Trace, shown: &Shown, names: &Names, width: i32) -> i32 {
     draw(&mut Svg::default(), trace, shown, names, width, 0) + LINE
 }
 
-/// The same for a screen reader.
+/// The same for a screen reader, with the slots of each base, which it does not see in the boxes.
 pub fn description(trace: &Trace, shown: &Shown, names: &Names) -> String {
     let ended = |sentence: String| if sentence.ends_with(['.', ':']) { sentence } else { format!("{sentence}.") };
-    let sentences = states(trace, shown, names).into_iter().chain(refusal_box::sentences(trace, shown));
-    sentences.map(ended).collect::<Vec<_>>().join(" ")
+    let of_bases = shown.bases.iter().map(|b| slots_in_words(&format!("base {b}"), shown.slots[b - 1]));
+    let end = states(trace, shown, names).into_iter().chain(of_bases).chain(airtime(trace, shown));
+    end.chain(refusal_box::sentences(trace, shown)).map(ended).collect::<Vec<_>>().join(" ")
 }
 
 fn lines(trace: &Trace, shown: &Shown, names: &Names, width: i32) -> Vec<String> {
     let room = width - 2 * MARGIN - 24;
-    states(trace, shown, names).iter().flat_map(|sentence| wrapped_to(sentence, PLAIN, room)).collect()
+    let sentences = states(trace, shown, names).into_iter().chain(airtime(trace, shown));
+    sentences.flat_map(|sentence| wrapped_to(&sentence, PLAIN, room)).collect()
 }
 
 /// "Stopped with L = 300 400 500, leader 500: bases 1, 2 and 3." Nothing before a refused line, where the boxes under the bases say it.
@@ -114,6 +129,24 @@ fn states(trace: &Trace, shown: &Shown, names: &Names) -> Vec<String> {
         }
     }
     out
+}
+
+/// The slots of all bases where the trace has them, and what slots are. Nothing where there is no net, and so no box.
+fn airtime(trace: &Trace, shown: &Shown) -> Vec<String> {
+    let all = match (&trace.end, shown.whole_end) {
+        _ if trace.net.is_none() => return Vec::new(),
+        (End::Report { slots, .. }, true) => Some(slots_in_words("all bases", *slots)),
+        _ => None,
+    };
+    let slots = "A frame takes one slot of airtime for each 8 bytes begun, and counts once though every link gets it.";
+    let boxes = "The boxes have the slots of what each base has broadcast from the beginning of the schedule up to here.";
+    let own = "Own: Announce, Verify of the base's own identifier, Correct-Final. Relayed: the rest.";
+    all.into_iter().chain([slots.to_string(), format!("{boxes} {own}")]).collect()
+}
+
+/// "Slots of base 1: own 4, relayed 1, together 5."
+fn slots_in_words(whose: &str, slots: Slots) -> String {
+    format!("Slots of {whose}: own {}, relayed {}, together {}.", slots.own, slots.relayed, slots.together())
 }
 
 fn unbroken(phrases: &[String]) -> Vec<String> {

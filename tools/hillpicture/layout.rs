@@ -19,7 +19,7 @@ pub const HEAD: i32 = 46;
 /// Under a head, before the first row.
 pub const BELOW_HEAD: i32 = 10;
 const ROW: i32 = 23;
-/// The word "secondary" fits the box under a base's line.
+/// The words "secondary" and "relayed 24" fit the box under a base's line. No base of 16 relays more.
 const NARROWEST_GAP: i32 = 84;
 /// Together the bases take at least this much, so that few bases do not stand too close.
 const BASES: i32 = 360;

@@ -1,7 +1,8 @@
 //! A trace's text, read line by line. What the picture needs has to be there and in its place, else the line is named by its number; what
 //! the trace says besides is kept and shown as it stands.
 
-use crate::trace::{Broadcast, Cause, Check, End, Event, Hearing, Message, Net, Outcome, State, Stop, Trace};
+use crate::trace::{spent, Broadcast, Cause, Check, End, Event, Hearing, Message, Net, Outcome, Slots, State, Stop, Trace};
+use std::cmp::Ordering;
 
 pub struct Wrong {
     /// Of the trace, from 1; one past the last where something is missing.
@@ -54,6 +55,8 @@ struct Reader {
     ids: Vec<u32>,
     faulty: Vec<(usize, usize)>,
     events: Vec<Event>,
+    /// Each base's slots, then those of all; they stand before the report.
+    totals: Vec<Slots>,
     report: Vec<State>,
     pairs: Vec<String>,
     end: Option<End>,
@@ -73,13 +76,19 @@ impl Reader {
         if let Some(rest) = line.strip_prefix("line ") {
             return self.take_schedule_line(rest, line);
         }
-        self.take_end(line).ok_or_else(|| NO_TRACE_LINE.to_string())
+        if let Some(rest) = line.strip_prefix("slots of ") {
+            return self.take_total(rest);
+        }
+        match self.next_total() {
+            Some(next) if line.starts_with("base ") => Err(slots_expected(&next)),
+            _ => self.take_end(line).ok_or_else(|| NO_TRACE_LINE.to_string()),
+        }
     }
 
     fn take_schedule_line(&mut self, rest: &str, whole: &str) -> Taken {
         let (number, schedule) = rest.split_once(": ").ok_or(NO_TRACE_LINE)?;
         self.lines += 1;
-        if number.parse() != Ok(self.lines) || !self.report.is_empty() {
+        if number.parse() != Ok(self.lines) || !self.totals.is_empty() {
             return Err(format!("the schedule's line {} is expected", self.lines));
         }
         let words: Vec<&str> = schedule.split(' ').collect();
@@ -118,8 +127,8 @@ impl Reader {
         };
         let told = vec![whole.to_string()];
         let line = self.lines;
-        let (broadcasts, withheld) = (Vec::new(), None);
-        let event = Event { line, cause, at, starts: false, hearing: None, broadcasts, withheld, check: None, stop: None, told };
+        let (broadcasts, withheld, slots) = (Vec::new(), None, None);
+        let event = Event { line, cause, at, starts: false, hearing: None, broadcasts, withheld, check: None, stop: None, slots, told };
         let between_two = event.from() != Some(at);
         self.events.push(event);
         between_two.then_some(())
@@ -130,7 +139,7 @@ impl Reader {
         let (Some(net), Some(event)) = (self.net, self.events.last_mut()) else {
             return Err("no start, carry or forgery stands before it".to_string());
         };
-        if !self.report.is_empty() {
+        if !self.totals.is_empty() {
             return Err(NO_TRACE_LINE.to_string());
         }
         event.told.push(line.trim_start().to_string());
@@ -139,6 +148,30 @@ impl Reader {
             Some(rest) => take_outcome(event, net, rest.trim_start_matches([',', ' '])).ok_or_else(|| NO_TRACE_LINE.to_string()),
             None if line.starts_with("  base ") => Err(format!("a line about {} is expected", about.trim_start())),
             None => Ok(()),
+        }
+    }
+
+    /// `base 1: own 4, relayed 1, together 5`: what the slots of the events add up to.
+    fn take_total(&mut self, rest: &str) -> Taken {
+        let next = self.next_total().ok_or(NO_TRACE_LINE)?;
+        let figures = rest.strip_prefix(&format!("{next}: ")).ok_or_else(|| slots_expected(&next))?;
+        let (slots, together) = total_of(figures).ok_or(NO_TRACE_LINE)?;
+        let spent = spent(&self.events, self.ids.len());
+        let sum = spent.get(self.totals.len()).copied().unwrap_or_else(|| spent.iter().copied().sum());
+        if slots != sum || together != sum.together() {
+            return Err("the slots of the lines before add up to another number".to_string());
+        }
+        self.totals.push(slots);
+        Ok(())
+    }
+
+    /// Whose slots are the next: those of the bases in turn, then those of all.
+    fn next_total(&self) -> Option<String> {
+        match self.totals.len().cmp(&self.ids.len()) {
+            _ if !self.has_ids() => None,
+            Ordering::Less => Some(format!("base {}", self.totals.len() + 1)),
+            Ordering::Equal => Some("all bases".to_string()),
+            Ordering::Greater => None,
         }
     }
 
@@ -152,12 +185,12 @@ impl Reader {
                 return in_turn.then_some(());
             }
             // The messages that wait between two bases; the report has their number.
-            ["waiting", ref pair @ ..] if pair.first() == Some(&"from") && self.has_ids() && self.report.is_empty() => {
+            ["waiting", ref pair @ ..] if pair.first() == Some(&"from") && self.has_ids() && self.totals.is_empty() => {
                 self.pairs.push(pair.join(" ").replace(", by number:", ":"));
             }
             ["waiting", waiting] if self.has_ids() && self.report.len() == self.ids.len() => {
                 let (bases, pairs) = (std::mem::take(&mut self.report), std::mem::take(&mut self.pairs));
-                self.end = Some(End::Report { bases, waiting: waiting.parse().ok()?, pairs });
+                self.end = Some(End::Report { bases, slots: *self.totals.last()?, waiting: waiting.parse().ok()?, pairs });
             }
             _ => return None,
         }
@@ -167,7 +200,10 @@ impl Reader {
     fn event_is_whole(&self) -> Taken {
         let Some(event) = self.events.last() else { return Ok(()) };
         let whole = if event.cause == Cause::Start { event.told.len() > 1 } else { event.hearing.is_some() };
-        whole.then_some(()).ok_or_else(|| format!("what line {} of the schedule did is missing before", event.line))
+        whole.then_some(()).ok_or_else(|| format!("what line {} of the schedule did is missing before", event.line))?;
+        // Before a refused line no total would tell.
+        let counted = event.slots.is_some() || event.broadcasts.is_empty();
+        counted.then_some(()).ok_or_else(|| format!("the slots of line {} of the schedule are missing before", event.line))
     }
 
     fn has_ids(&self) -> bool {
@@ -182,7 +218,7 @@ impl Reader {
         if refused.is_some() {
             self.event_is_whole()?;
         }
-        let end = refused.filter(|_| self.report.is_empty()).or(self.end).ok_or("the trace ends without a report or a refusal")?;
+        let end = refused.filter(|_| self.totals.is_empty()).or(self.end).ok_or("the trace ends without a report or a refusal")?;
         let last_line = if let End::Refused { line, .. } = end { line } else { self.lines };
         Ok(Trace { last_line, net: self.net, ids: self.ids, faulty: self.faulty, events: self.events, end })
     }
@@ -193,6 +229,9 @@ fn take_outcome(event: &mut Event, net: Net, rest: &str) -> Option<()> {
     if let Some(heard) = rest.strip_prefix("hears ") {
         let hearing = hearing_of(heard, event.from()?, net.n)?;
         return event.hearing.replace(hearing).is_none().then_some(());
+    }
+    if let Some(slots) = rest.strip_prefix("slots: ") {
+        return event.slots.replace(slots_of(slots)?).is_none().then_some(());
     }
     if rest.contains(" check") {
         event.check = Some(check_of(rest)?);
@@ -272,6 +311,23 @@ fn state_of(words: &[&str], n: usize) -> Option<State> {
         }
         _ => None,
     }
+}
+
+/// `own 2, relayed 1`, each small enough that no sum of them overflows
+fn slots_of(text: &str) -> Option<Slots> {
+    let (own, relayed) = text.strip_prefix("own ")?.split_once(", relayed ")?;
+    let [own, relayed] = [own, relayed].map(|word| word.parse::<u32>().ok().map(u64::from));
+    Some(Slots { own: own?, relayed: relayed? })
+}
+
+/// `own 4, relayed 1, together 5`
+fn total_of(text: &str) -> Option<(Slots, u64)> {
+    let (slots, together) = text.split_once(", together ")?;
+    Some((slots_of(slots)?, together.parse().ok()?))
+}
+
+fn slots_expected(whose: &str) -> String {
+    format!("the slots of {whose} are expected")
 }
 
 /// The figures of a check, each behind its word; the thresholds are the net's, and the picture shows them once, over the figures.

@@ -19,9 +19,18 @@ pub struct Net {
     pub t: usize,
 }
 
+/// Airtime, as the trace counts it.
+#[derive(Clone, Copy, Default, PartialEq, Eq)]
+pub struct Slots {
+    pub own: u64,
+    pub relayed: u64,
+}
+
 pub enum End {
     Report {
         bases: Vec<State>,
+        /// Of all bases; each base's are those of its events.
+        slots: Slots,
         waiting: usize,
         /// "from base 1 to base 3: 1 2"
         pairs: Vec<String>,
@@ -57,6 +66,8 @@ pub struct Event {
     pub withheld: Option<String>,
     pub check: Option<Check>,
     pub stop: Option<Stop>,
+    /// Of what the base broadcasts, if anything.
+    pub slots: Option<Slots>,
     /// The trace's own lines.
     pub told: Vec<String>,
 }
@@ -113,6 +124,24 @@ impl Net {
     pub fn least_tally(self) -> usize {
         self.t + 1
     }
+}
+
+impl Slots {
+    pub fn together(self) -> u64 {
+        self.own + self.relayed
+    }
+}
+
+impl std::iter::Sum for Slots {
+    fn sum<I: Iterator<Item = Slots>>(all: I) -> Slots {
+        all.fold(Slots::default(), |sum, slots| Slots { own: sum.own + slots.own, relayed: sum.relayed + slots.relayed })
+    }
+}
+
+/// What each of n bases spends in these events.
+pub fn spent(events: &[Event], n: usize) -> Vec<Slots> {
+    let by = |b: usize| events.iter().filter(|event| event.at == b).filter_map(|event| event.slots).sum();
+    (1..=n).map(by).collect()
 }
 
 /// "two links hold Correct-Final V"
