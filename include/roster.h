@@ -41,10 +41,10 @@
  * answer with which it stops as well: others need its Correct-Final. After that it discards every fit burst and has nothing to send.
  *
  * Keep through a loss of power: the record, each frame until every link has acknowledged it (a base has ROSTER_MOST_BROADCASTS(n) in its
- * life), and ROSTER_RECORD_VERSION beside them; a record of another version of the record is not to be used. A base that forgets its record
- * and starts again in the same net is outside everything that was proved. After every call that is accepted, and after one that is discarded with frames,
- * store the record and the frames together, in one step, before the burst is acknowledged and before the first of the frames is sent. A
- * call that is turned down, or discarded without frames, leaves the record as it was.
+ * life), and ROSTER_RECORD_VERSION beside them; a record that was stored with another one is not to be used. A base that forgets its record
+ * and starts again in the same net is outside everything that was proved. After every call that is accepted, and after one that is
+ * discarded with frames, store the record and the frames together, in one step, before the burst is acknowledged and before the first of
+ * the frames is sent. A call that is turned down, or discarded without frames, leaves the record as it was.
  * The record may be stored as its bytes, all of which belong to fields. A record that is read back and is not sound is turned down by 4
  * (by 1 to 3 for its n, t or own identifier); roster_leader tells so without changing it. A sound one is taken for the base's own, and a
  * changed identifier often leaves it sound: store a checksum beside it. A base whose record is lost or damaged takes no further part in

@@ -9,7 +9,6 @@ use limits::MOST_BASES;
 use protocol::Outcome;
 ghost use mathlib.Core.Path.{_≡_};
 ghost use mathlib.Core.List.{_++_};
-ghost use Prim.Native.Nat.{_≤_};
 ghost use lib.ListN.{length};
 ghost use Rattle.frame.specs.Slots.{sizeOf};
 ghost use Rattle.frame.specs.Encoding.{over};

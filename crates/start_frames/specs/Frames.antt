@@ -17,4 +17,12 @@ unfoldable pub startLength : ℕ → ℕ
 startLength room = choose (leb (2 * frameBytes 1) room) (frameBytes 1) 0
 
 unfoldable pub startSizes : ℕ → StartSizes
-startSizes room = record { announce = startLength room; verify = startLength room; slots = frameSlots (startLength room) + frameSlots (startLength room) }
+startSizes room = record {
+  announce = startLength room;
+  verify = startLength room;
+  slots = frameSlots (startLength room) + frameSlots (startLength room);
+}
+
+-- where there is room for both
+abbrev pub writtenStart : StartSizes
+writtenStart = record { announce = frameBytes 1; verify = frameBytes 1; slots = 2 }

@@ -27,10 +27,12 @@ returns : tie.Need-returns
 returns c = let a = c .before .before .before .before .before .before .before .before .args in
     let w = c .before .before .before .before .before .say in
     runs-on-said (a .n) (a .first) (a .ids) (a .stops) (a .list) (a .out .now)
-    _ _ _ _ (not-true _ (c .before .before .if1 .taken)) (w .ensures .0) (c .before .frame-size .ensures) (c .accepted .ensures) (w .ensures .1)
+    _ _ _ _ (not-true _ (c .before .before .if1 .taken)) (w .ensures .0) (c .before .frame-size .ensures) (c .accepted .ensures)
+    (w .ensures .1)
 
 -- the first frame ends within the output
-within : (c : tie.Else1) → c .before .before .before .say .result .length ≤ length (c .before .before .before .before .before .before .args .out .now)
+within : (c : tie.Else1) → let a = c .before .before .before .before .before .before .args in
+    c .before .before .before .say .result .length ≤ length (a .out .now)
 within c = let a = c .before .before .before .before .before .before .args in omega (
   arith,
   ap (λ (s : FrameSize). s .length) (c .before .before .before .say .ensures .0),

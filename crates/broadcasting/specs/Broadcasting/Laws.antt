@@ -4,18 +4,17 @@ use mathlib.Core.Path.{_≡_, refl, sym, ap, ap₂, _∙_}
 use mathlib.Core.Bool.{Bool, true, false}
 use mathlib.Core.List.{List, [], _++_, append-nil}
 use native.Mathlib.Omega.{arith}
-use borrow.Author.Tests.{le-leb, lt-leb, eqb-true, leb-true}
+use borrow.Author.Tests.{le-leb, lt-leb}
 use lib.Dec.{eqb, leb}
 use lib.ListN.{length, take, length-take, drop, length-drop}
 use Rattle.limits.specs.Limits.{mostBases, frameBytes}
 use Rattle.lists.specs.Choice.{and}
 use Rattle.lists.specs.Choice.Laws.{choose-yes, choose-no, choose-ind, and-true, and-fails, and-both, and-no}
-use Rattle.frame.specs.Message.{known, expected, lengthOf}
+use Rattle.frame.specs.Message.{known, expected}
 use Rattle.frame.specs.Encoding.{frameOf, over}
 use Rattle.frame.specs.Encoding.Laws.{length-frame, over-nothing}
 use Rattle.frame.specs.declared.size.FrameSize.{FrameSize}
 use Rattle.frame.specs.Slots.{sizeOf}
-use Rattle.frame.specs.Reading.{kindRefusal}
 use Rattle.frame.specs.Reading.Laws.{kind-unknown, kind-size}
 use Rattle.frame_room.specs.Room.{frameFits}
 use Rattle.framing.specs.Framing.{putLength, putOutput}

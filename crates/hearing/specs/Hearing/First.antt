@@ -31,6 +31,7 @@ use Rattle.change.specs.declared.Change.{Change}
 use Rattle.change.specs.Change.{changedBase, Does}
 use Rattle.change.specs.Heard.{messageIn}
 use Rattle.start_frames.specs.declared.StartSizes.{StartSizes}
+use Rattle.start_frames.specs.Frames.{writtenStart}
 use Rattle.first_message.specs.FirstMessage.{behindStart}
 use Rattle.settling.specs.Settling.{withinLinks}
 use Rattle.settling.specs.Settling.Places.{within-same}
@@ -87,10 +88,6 @@ verify-long : (own : ℕ) → frameBytes 1 ≡ length (encode (verify own))
 unfolding encode kindOf idsOf
 verify-long own = sym (length-frame 2 (own ∷ []))
 
--- the sizes of the start's frames
-shortStart : StartSizes
-shortStart = record { announce = frameBytes 1; verify = frameBytes 1; slots = 2 }
-
 module _ (own : ℕ) (says : List Message) (o : ownSlots own says ≡ 0) where
   own-behind : 2 ≡ ownSlots own (announce own ∷ (verify own ∷ says))
   unfolding ownSlots sumOver
@@ -100,8 +97,8 @@ module _ (own : ℕ) (says : List Message) (o : ownSlots own says ≡ 0) where
   unfolding relayedSlots sumOver
   relayed-behind = omega (arith, announce-part own own .1, own-verify-part own .1)
 
-  behind-outcome : (a : Answer) → behindStart shortStart (outcomeWith own a says) ≡ outcomeWith own a (announce own ∷ (verify own ∷ says))
-  unfolding behindStart shortStart outcomeWith lengths
+  behind-outcome : (a : Answer) → behindStart writtenStart (outcomeWith own a says) ≡ outcomeWith own a (announce own ∷ (verify own ∷ says))
+  unfolding behindStart outcomeWith lengths
   behind-outcome accepted =
       λ i. Accepted (announce-long own i) (verify-long own i) (getD (lengths says) 0 0) (own-behind i) (relayed-behind i)
   behind-outcome discarded =
@@ -115,12 +112,12 @@ behind-output b d output after p =
     p ∙ ap (λ (f : List ℕ). over f output) (sym (encode-append (announce (b .own) ∷ (verify (b .own) ∷ [])) (d .says)))
 
 pub behind-does : (b : Base) (d : Done) (rest c : Change) (s : StartSizes) (part done output after : List ℕ) → Does b d rest part done
-    → ownSlots (b .own) (d .says) ≡ 0 → s ≡ record { announce = frameBytes 1; verify = frameBytes 1; slots = 2 }
+    → ownSlots (b .own) (d .says) ≡ 0 → s ≡ writtenStart
     → c .outcome ≡ behindStart s (rest .outcome) → changedBase b c ≡ changedBase b rest
     → after ≡ over (encodeAll (begins b .says) ++ encodeAll (d .says)) output → Does b (afterStart b d) c output after
 behind-does b d rest c s part done output after R o e p q w = record {
   changes = record {
-    outcome = p ∙ ap₂ behindStart (e ∙ short) (R .changes .outcome ∙ ap (λ (own : ℕ). outcomeWith own (d .answer) (d .says)) same)
+    outcome = p ∙ ap₂ behindStart e (R .changes .outcome ∙ ap (λ (own : ℕ). outcomeWith own (d .answer) (d .says)) same)
         ∙ behind-outcome (b .own) (d .says) o (d .answer) ∙ answers;
     base = q ∙ R .changes .base ∙ base;
   };
@@ -130,11 +127,9 @@ behind-does b d rest c s part done output after R o e p q w = record {
     same : d .base .own ≡ b .own
     same = unfold changedBase in sym (ap (λ (x : Base). x .own) (R .changes .base))
 
-    short : _≡_ {A = StartSizes} (record { announce = frameBytes 1; verify = frameBytes 1; slots = 2 }) shortStart
-    short = unfold shortStart in refl
-
     answers : outcomeWith (b .own) (d .answer) (announce (b .own) ∷ (verify (b .own) ∷ d .says)) ≡ outcomeOf (afterStart b d)
-    answers = unfold afterStart in ap (λ (own : ℕ). outcomeWith own (d .answer) (announce (b .own) ∷ (verify (b .own) ∷ d .says))) (sym same)
+    answers = unfold afterStart in
+        ap (λ (own : ℕ). outcomeWith own (d .answer) (announce (b .own) ∷ (verify (b .own) ∷ d .says))) (sym same)
 
     base : d .base ≡ afterStart b d .base
     base = unfold afterStart in refl

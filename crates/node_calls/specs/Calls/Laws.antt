@@ -1,16 +1,13 @@
 -- The three frames of a call, taken from the output by their lengths, are those that the call broadcast.
-use Prim.Native.Nat.{ℕ, zero, suc, _+_, _≤_, _<_}
+use Prim.Native.Nat.{ℕ, zero, suc, _+_, _≤_}
 use mathlib.Core.Path.{_≡_, refl, sym, ap, _∙_, subst}
 use mathlib.Core.List.{List, [], _∷_, _++_, map, append-assoc}
-use native.Mathlib.Numerals.{add-one}
 use native.Mathlib.Omega.{arith}
-use borrow.Author.Tests.{eq-eqb, ne-eqb, lt-ltb, le-ltb}
-use lib.ListN.{length, getD, take, drop, set, length-drop, length-append}
-use lib.Seq.{drop-cons, drop-length, take-suc, getD-drop, length-take-le, take-at, drop-at}
+use borrow.Author.Tests.{ne-eqb}
+use lib.ListN.{length, getD, take, drop, length-append}
+use lib.Seq.{take-at, drop-at}
 use Rattle.limits.specs.Limits.{longestFrame, outputRoom}
-use Rattle.lists.specs.Lists.{padTo}
-use Rattle.lists.specs.Lists.Laws.{pad-next}
-use Rattle.lists.specs.Choice.Laws.{choose-no, chosen-yes, chosen-no}
+use Rattle.lists.specs.Choice.Laws.{choose-no}
 use Rattle.frame.specs.Message.{Message}
 use Rattle.frame.specs.Encoding.{encode, over}
 use Rattle.frame.specs.Encoding.Laws.{length-over}
@@ -23,10 +20,9 @@ use Rattle.protocol.specs.Steps.Output.{lengths-sum}
 use Rattle.change.specs.Change.{DoesAs}
 use Rattle.c_answers.specs.declared.CallAnswer.{CallAnswer}
 use Rattle.c_answers.specs.Numbers.{outcomeNumbers}
-use Rattle.node.specs.declared.Frame.{Frame}
 use Rattle.node.specs.declared.Node.{Node}
 use Rattle.node_calls.specs.declared.NodeAnswer.{NodeAnswer}
-use Rattle.node.specs.Node.{mostBroadcasts, storedFrame, joined, joinedAll, withBase, nodeAfter}
+use Rattle.node.specs.Node.{joined, joinedAll, withBase, nodeAfter}
 use Rattle.protocol.specs.Steps.Sizes.{length-encode}
 use Rattle.node_calls.specs.Calls.{nodeAnswer, Fitting, writtenAnswer}
 use Rattle.keeping.specs.Keeping.{keptOf, keptFrom, AllFit, keptThree}

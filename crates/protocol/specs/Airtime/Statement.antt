@@ -1,6 +1,6 @@
--- A base's life in slots (document 02, request 2): "Added up over a base's life, from idle, both together equal the slots of its broadcasts,
--- at most n + 1 plus twice (n + 1) / 2 rounded up". The life is any list of starts and arrivals at one base, with any links, bursts and
--- output lengths, calls that are turned down among them.
+-- A base's life in slots (document 02, request 2): "Added up over a base's life, from idle, both together equal the slots of its
+-- broadcasts, at most n + 1 plus twice (n + 1) / 2 rounded up". The life is any list of starts and arrivals at one base, with any links,
+-- bursts and output lengths, calls that are turned down among them.
 use Prim.Native.Nat.{ℕ, _+_, _*_, _-_, _≤_}
 use mathlib.Core.Path.{_≡_}
 use mathlib.Core.List.{List, [], _∷_}

@@ -2,7 +2,6 @@
 -- those of all that was broadcast; and each message weighs what `Steps/Life` asks of a weight, once in own slots, once in relayed ones.
 use Prim.Native.Nat.{ℕ, _+_, _*_, _-_, _≤_}
 use mathlib.Core.Path.{_≡_, refl, sym, ap, _∙_, subst}
-use mathlib.Core.Logic.{_⊎_, inl, inr}
 use mathlib.Core.List.{List, [], _∷_}
 use native.Mathlib.Decide.{ℕ-discrete}
 use native.Mathlib.Omega.{arith}
@@ -12,19 +11,18 @@ use Rattle.lists.specs.Lists.Sums.{sum-over-append}
 use Rattle.frame.specs.Message.{Message}
 use Rattle.frame.specs.Slots.{slotsOf}
 use Rattle.protocol.specs.declared.Base.{Base}
-use Rattle.protocol.specs.declared.Outcome.{Outcome}
 use Rattle.protocol.specs.Record.Memory.{Sized}
 use Rattle.protocol.specs.Sound.{recordRefusal}
 use Rattle.protocol.specs.Sound.Laws.{record-passed}
-use Rattle.protocol.specs.Steps.{Done, refuses, discards, accepts, stops, begins, startStep, arrivalStep, outcomeWith, outcomeOf}
-use Rattle.protocol.specs.Steps.Calls.{Call, startCall, arrivalCall, CallBytes, called, AllBytes, life, call-held, refused-for-ever}
+use Rattle.protocol.specs.Steps.{Done, refuses, discards, accepts, stops, begins, outcomeWith}
+use Rattle.protocol.specs.Steps.Calls.{Call, startCall, arrivalCall, called, AllBytes, life, call-held, refused-for-ever}
 use Rattle.protocol.specs.Steps.Cases.{Ends, discarding, runningOn, stopping, message-ends, begun, afterStart}
 use Rattle.protocol.specs.Steps.Cases.{start-step-cases, arrival-step-cases}
 use Rattle.protocol.specs.Steps.Life.{Weights, Weighs, life-weight-most}
 use Rattle.protocol.specs.Steps.Refusals.{start-cases, arrival-cases}
 use Rattle.protocol.specs.Airtime.{ownPart, relayedPart, ownSlots, relayedSlots}
 use Rattle.protocol.specs.Airtime.Laws.{sums-whole, announce-part, own-verify-part, verify-part, final-part, vote-part}
-use Rattle.protocol.specs.Airtime.Statement.{ownOf, relayedOf, answered, LifeSlots, Airtime}
+use Rattle.protocol.specs.Airtime.Statement.{ownOf, relayedOf, answered, Airtime}
 
 -- ---- the sums that a call answers with are those of what it says
 abbrev Sums : ℕ → Done → Type 0

@@ -233,16 +233,16 @@ module _ (w : Weights) (weight : Message → ℕ) where
       omega (arith, life-weight b calls W S bytes, same, spent-most w (afterCalls b calls))
 
 -- ---- the number of messages: each weighs one
-abbrev pub ones : Weights
-ones = record { start = 2; relay = 1; vote = 1; final = 1 }
+abbrev pub oneEach : Weights
+oneEach = record { start = 2; relay = 1; vote = 1; final = 1 }
 
-pub ones-weigh : (own n : ℕ) → Weighs ones (λ _. 1) own n
-ones-weigh own n = record { starts = refl; relays = λ g _. refl; votes = λ v _. refl; finals = λ v _. refl }
+pub one-each-weigh : (own n : ℕ) → Weighs oneEach (λ _. 1) own n
+one-each-weigh own n = record { starts = refl; relays = λ g _. refl; votes = λ v _. refl; finals = λ v _. refl }
 
 pub life-most : (b : Base) (calls : List Call) → Sized b → AllBytes calls → NetSize (b .n) → length (life b calls) ≤ b .n + 3
 life-most b calls S bytes N = omega (
   arith,
-  life-weight-most ones (λ _. 1) b calls (ones-weigh (b .own) (b .n)) S bytes,
+  life-weight-most oneEach (λ _. 1) b calls (one-each-weigh (b .own) (b .n)) S bytes,
   sum-over-ones (life b calls),
   N .least,
 )

@@ -22,7 +22,7 @@ use Rattle.two_frames.specs.TwoFrames.Laws.{put-two-sizes, put-two-output}
 use Rattle.protocol.specs.declared.Base.{Base}
 use Rattle.protocol.specs.Steps.{accepts, begins, encodeAll}
 use Rattle.start_frames.specs.declared.StartSizes.{StartSizes}
-use Rattle.start_frames.specs.Frames.{startFrames, startLength, startSizes}
+use Rattle.start_frames.specs.Frames.{startFrames, startLength, startSizes, writtenStart}
 
 -- ---- what `put_two` puts
 both-fit : (n room : ℕ) → twoFit n 1 2 1 room ≡ true → 2 * frameBytes 1 ≤ room
@@ -88,7 +88,8 @@ module _ (n own : ℕ) (output : List ℕ) where
   unfolding Begun both
   begin-few two p =
       let B = begins-with two _ p refl in
-      omega (arith, ap (λ (t : TwoSizes). t .front .slots) (B .0), ap (λ (t : TwoSizes). t .next .slots) (B .0), start-short (length output))
+      let short = start-short (length output) in
+      omega (arith, ap (λ (t : TwoSizes). t .front .slots) (B .0), ap (λ (t : TwoSizes). t .next .slots) (B .0), short)
 
 -- ---- their lengths
 pub start-long : (own room : ℕ) → length (startFrames own room) ≡ startLength room + startLength room
@@ -116,7 +117,7 @@ unfolding startLength
 start-length-is room h = choose-yes _ _ (le-leb (2 * frameBytes 1) room h)
 
 pub start-sizes-are : (room : ℕ) → 2 * frameBytes 1 ≤ room
-    → startSizes room ≡ record { announce = frameBytes 1; verify = frameBytes 1; slots = 2 }
+    → startSizes room ≡ writtenStart
 unfolding startSizes
 start-sizes-are room h =
     ap (λ (k : ℕ). record { announce = k; verify = k; slots = frameSlots k + frameSlots k }) (start-length-is room h)

@@ -1,4 +1,4 @@
--- What is broadcast, as bytes: the frames that the code writes are the encodings of what is said, and the answer has their lengths and slots.
+-- What is broadcast, as bytes: the frames that the code writes are the encodings of what is said, and the answer has their sizes.
 use Prim.Native.Nat.{ℕ, _+_, _≤_}
 use mathlib.Core.Path.{_≡_, refl, sym, ap, ap₂, _∙_, subst}
 use mathlib.Core.Logic.{_≢_, inl, inr}

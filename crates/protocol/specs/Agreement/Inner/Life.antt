@@ -18,7 +18,7 @@ use Rattle.protocol.specs.Sound.{idle, recordRefusal}
 use Rattle.protocol.specs.Sound.Laws.{record-passed, sound-parts, idle-unsent, idle-place}
 use Rattle.protocol.specs.Steps.{Done, startStep, arrivalStep}
 use Rattle.protocol.specs.Steps.Certified.{announcedTo}
-use Rattle.protocol.specs.Steps.Life.{ones, ones-weigh, spentBy, spent, spent-most, Paid, start-step-paid, arrival-step-paid}
+use Rattle.protocol.specs.Steps.Life.{oneEach, one-each-weigh, spentBy, spent, spent-most, Paid, start-step-paid, arrival-step-paid}
 use Rattle.protocol.specs.Agreement.Invariant.{Premises}
 use Rattle.protocol.specs.Agreement.Observers.{placeOf}
 use Rattle.protocol.specs.Agreement.Inner.{Group, groupAfter, ReachedGroup, fresh, groupStarts, groupArrives}
@@ -26,7 +26,7 @@ use Rattle.protocol.specs.Agreement.Inner.Moves.{called-each, member-hea
 use Rattle.protocol.specs.Agreement.Inner.Theorem.{GroupInvariant, group-invariant}
 
 -- an idle record has spent nothing
-idle-spent : (b : Base) → recordRefusal b ≡ 0 → idle b ≡ true → spent ones b ≡ 0
+idle-spent : (b : Base) → recordRefusal b ≡ 0 → idle b ≡ true → spent oneEach b ≡ 0
 unfolding spent
 idle-spent b e off =
     go (nobody) (eqb-true (b .state) 0 (unfold idle in off)) (idle-unsent b (sound-parts b (record-passed b e .sound) .idle) off)
@@ -38,36 +38,37 @@ idle-spent b e off =
         silent i l = unfold announces in ap not (eq-eqb (linkAt b i .announce) 0
             (idle-place b (sound-parts b (record-passed b e .sound) .idle) off i (omega (arith, link-room b)) .announce))
 
-    go : announcedTo b ≡ [] → b .state ≡ 0 → b .sent ≡ 0 → spentBy ones (b .state) (length (announcedTo b)) (b .sent) ≡ 0
+    go : announcedTo b ≡ [] → b .state ≡ 0 → b .sent ≡ 0 → spentBy oneEach (b .state) (length (announcedTo b)) (b .sent) ≡ 0
     go p q r = unfold spentBy choose in rw (p, q, r)
 
 -- a step's messages are as many as its record has more
-counted : (b : Base) (d : Done) → Paid ones (λ _. 1) b d → spent ones b + length (d .says) ≡ spent ones (d .base)
-counted b d p = omega (arith, p, sum-over-ones (d .says))
+step-count : (b : Base) (d : Done) → Paid oneEach (λ _. 1) b d → spent oneEach b + length (d .says) ≡ spent oneEach (d .base)
+step-count b d p = omega (arith, p, sum-over-ones (d .says))
 
 module _ (n t : ℕ) (faulty : ℕ → ℕ → ℕ) (id : ℕ → ℕ) (truth : List ℕ) (P : Premises n t faulty id truth) where
-  log-spent : {N : Group} → ReachedGroup n t faulty id N → (x : ℕ) → x < n → spent ones (N .base x) ≡ length (N .log x)
+  log-spent : {N : Group} → ReachedGroup n t faulty id N → (x : ℕ) → x < n → spent oneEach (N .base x) ≡ length (N .log x)
   log-spent (fresh {N = N} F) = λ x l. idle-spent (N .base x) (F .member x l .refusal) (F .idle x l) ∙ ap length (sym (F .silent x l))
   log-spent (groupStarts {N = N} R y y-in) =
-      called-each N y (startStep (N .base y)) (N .handed) (λ x b log. x < n → spent ones b ≡ length log)
+      called-each N y (startStep (N .base y)) (N .handed) (λ x b log. x < n → spent oneEach b ≡ length log)
       (λ l. omega (
         arith,
-        counted (N .base y) (startStep (N .base y)) (start-step-paid ones (λ _. 1) (N .base y) (ones-weigh (N .base y .own) (N .base y .n))),
+        step-count (N .base y) (startStep (N .base y))
+            (start-step-paid oneEach (λ _. 1) (N .base y) (one-each-weigh (N .base y .own) (N .base y .n))),
         log-spent R y y-in,
         length-append (N .log y) (startStep (N .base y) .says),
       ))
       (λ x ne l. log-spent R x l)
   log-spent (groupArrives {N = N} R x y m handed x-in y-in ne w source newly) = go (group-invariant n t faulty id truth P R) (log-spent R)
     where
-      go : GroupInvariant n t faulty id truth N → ((z : ℕ) → z < n → spent ones (N .base z) ≡ length (N .log z))
+      go : GroupInvariant n t faulty id truth N → ((z : ℕ) → z < n → spent oneEach (N .base z) ≡ length (N .log z))
           → (z : ℕ) → z < n
-          → spent ones (groupAfter N y (arrivalStep (N .base y) (placeOf y x) m) handed .base z)
+          → spent oneEach (groupAfter N y (arrivalStep (N .base y) (placeOf y x) m) handed .base z)
           ≡ length (groupAfter N y (arrivalStep (N .base y) (placeOf y x) m) handed .log z)
-      go S before = called-each N y (arrivalStep (N .base y) (placeOf y x) m) handed (λ z b log. z < n → spent ones b ≡ length log)
+      go S before = called-each N y (arrivalStep (N .base y) (placeOf y x) m) handed (λ z b log. z < n → spent oneEach b ≡ length log)
           (λ l. omega (
             arith,
-            counted (N .base y) (arrivalStep (N .base y) (placeOf y x) m)
-                (arrival-step-paid ones (λ _. 1) (N .base y) (placeOf y x) m (ones-weigh (N .base y .own) (N .base y .n))
+            step-count (N .base y) (arrivalStep (N .base y) (placeOf y x) m)
+                (arrival-step-paid oneEach (λ _. 1) (N .base y) (placeOf y x) m (one-each-weigh (N .base y .own) (N .base y .n))
                 (S .member y y-in .sized) (member-heard n t y y-in (id y) (N .base y) (S .member y y-in) x x-in ne m w)),
             before y y-in,
             length-append (N .log y) (arrivalStep (N .base y) (placeOf y x) m .says),
@@ -76,4 +77,4 @@ module _ (n t : ℕ) (faulty : ℕ → ℕ → ℕ) (id : ℕ → ℕ) (truth : 
 
   pub log-most : {N : Group} → ReachedGroup n t faulty id N → (x : ℕ) → x < n → length (N .log x) ≤ n + 3
   log-most {N} R x l = let M = group-invariant n t faulty id truth P R .member x l in
-      omega (arith, log-spent R x l, M .n-is, spent-most ones (N .base x))
+      omega (arith, log-spent R x l, M .n-is, spent-most oneEach (N .base x))
