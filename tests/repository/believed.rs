@@ -1,5 +1,5 @@
-//! What a reader has to believe: the definitions that the statement of agreement, the statement about the replay and the one about the sets
-//! of faulty links reach, by the names in their texts. The three lists in docs/AGREEMENT.md have exactly these.
+//! What a reader has to believe: the definitions that the statement of agreement, the statements about the replay, about the sets of faulty
+//! links and about airtime reach, by the names in their texts. The lists in docs/AGREEMENT.md have exactly these.
 
 use crate::antt::{import_of, modules, names_in, Import, Module};
 use crate::files::{below, below_crates, text_of};
@@ -37,12 +37,7 @@ struct World {
 pub fn check() -> Result<String, Vec<String>> {
     let world = World { modules: modules(), types: types() };
     let page = text_of(PAGE).map_err(|error| vec![error])?;
-    let agreement = world.reached(agreement_roots());
-    let mut replay = world.reached(world.replay_roots().map_err(|error| vec![error])?);
-    replay.retain(|reached| !agreement.contains(reached));
-    let mut sets = world.reached(world.set_roots().map_err(|error| vec![error])?);
-    sets.retain(|reached| !agreement.contains(reached) && !replay.contains(reached));
-    let statements = [("the agreement's statement", agreement), ("the replay's besides", replay), ("the faulty sets' besides", sets)];
+    let statements = world.statements().map_err(|error| vec![error])?;
     let compared = statements.iter().zip(listed(&page));
     let wrong: Vec<String> = compared.flat_map(|((of, reached), listed)| differences(of, reached, &listed)).collect();
     match wrong.is_empty() {
@@ -50,6 +45,9 @@ pub fn check() -> Result<String, Vec<String>> {
         false => Err(wrong),
     }
 }
+
+/// What the headings of the page's lists behind the first are about, in their order.
+const BESIDES: [&str; 3] = ["replay", "faulty links", "airtime"];
 
 fn differences(of: &str, reached: &BTreeSet<Place>, listed: &BTreeSet<Place>) -> Vec<String> {
     let missing = reached.difference(listed).map(|one| format!("{of} reaches {one}, which {PAGE} does not list"));
@@ -63,6 +61,23 @@ fn agreement_roots() -> Vec<Place> {
 }
 
 impl World {
+    /// Each statement, and what it reaches beyond those before it.
+    fn statements(&self) -> Result<[(&'static str, BTreeSet<Place>); 4], String> {
+        let mut before = BTreeSet::new();
+        let mut besides = |roots: Vec<Place>| {
+            let mut reached = self.reached(roots);
+            reached.retain(|one| !before.contains(one));
+            before.extend(reached.iter().cloned());
+            reached
+        };
+        Ok([
+            ("the agreement's statement", besides(agreement_roots())),
+            ("the replay's besides", besides(self.replay_roots()?)),
+            ("the faulty sets' besides", besides(self.set_roots()?)),
+            ("airtime's besides", besides(self.airtime_roots()?)),
+        ])
+    }
+
     /// What schedule/specs/Theorem*.antt define, the statement about what each line does, and the definitions in the contract of
     /// `replay::roster_replay`.
     fn replay_roots(&self) -> Result<Vec<Place>, String> {
@@ -83,6 +98,15 @@ impl World {
         let mut roots = vec![place("link_sets/specs/Statement.antt", "EachOnce"), place("set_text/specs/Taken.antt", "SetTaken")];
         for call in ["roster_faulty_count", "roster_faulty_set", "roster_faulty_text"] {
             roots.extend(self.contract("faulty_c", call)?);
+        }
+        Ok(roots)
+    }
+
+    /// The statement about a base's life, and the definitions in the contracts of the calls that answer with slots.
+    fn airtime_roots(&self) -> Result<Vec<Place>, String> {
+        let mut roots = vec![place("protocol/specs/Airtime/Statement.antt", "Airtime")];
+        for call in ["roster_start", "roster_arrive", "roster_write"] {
+            roots.extend(self.contract("roster_c", call)?);
         }
         Ok(roots)
     }
@@ -197,16 +221,15 @@ pub fn type_name(line: &str) -> Option<&str> {
     rest.split(|c: char| !c.is_alphanumeric() && c != '_').next()
 }
 
-/// The page's three lists: the numbered points under the section's heading, and those under the headings about the replay and about the
-/// sets of faulty links behind it. A path in backticks says where the names in backticks behind it are; one without its crate stands in the
-/// specs/ of the path before.
-fn listed(page: &str) -> [BTreeSet<Place>; 3] {
-    let mut lists = [BTreeSet::new(), BTreeSet::new(), BTreeSet::new()];
+/// The page's lists: the numbered points under the section's heading, and those under each of the headings behind it. A path in backticks
+/// says where the names in backticks behind it are; one without its crate stands in the specs/ of the path before.
+fn listed(page: &str) -> [BTreeSet<Place>; 1 + BESIDES.len()] {
+    let mut lists = std::array::from_fn(|_| BTreeSet::new());
     let (mut list, mut inside, mut item) = (0, false, false);
     let mut file = String::new();
     for line in page.lines() {
         if line.starts_with('#') {
-            list = ["replay", "faulty links"].iter().position(|of| line.contains(of)).map_or(0, |place| place + 1);
+            list = BESIDES.iter().position(|of| line.contains(of)).map_or(0, |place| place + 1);
             inside = line == SECTION || (inside && (list > 0 || line.starts_with("###")));
         }
         item = starts_item(line) || (item && line.starts_with("   "));
