@@ -135,7 +135,7 @@ fn states(trace: &Trace, shown: &Shown, names: &Names) -> Vec<String> {
 fn airtime(trace: &Trace, shown: &Shown) -> Vec<String> {
     let all = match (&trace.end, shown.whole_end) {
         _ if trace.net.is_none() => return Vec::new(),
-        (End::Report { slots, .. }, true) => Some(slots_in_words("all bases", *slots)),
+        (End::Report { slots, .. }, true) => Some(slots_in_words("all bases of the net", *slots)),
         _ => None,
     };
     let slots = "A frame takes one slot of airtime for each 8 bytes begun, and counts once though every link gets it.";

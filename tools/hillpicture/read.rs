@@ -230,7 +230,7 @@ fn take_outcome(event: &mut Event, net: Net, rest: &str) -> Option<()> {
         let hearing = hearing_of(heard, event.from()?, net.n)?;
         return event.hearing.replace(hearing).is_none().then_some(());
     }
-    if let Some(slots) = rest.strip_prefix("slots: ") {
+    if let Some(slots) = rest.strip_prefix("slots of this line: ") {
         return event.slots.replace(slots_of(slots)?).is_none().then_some(());
     }
     if rest.contains(" check") {

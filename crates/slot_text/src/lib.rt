@@ -25,13 +25,13 @@ pub fn no_slots(base: u8) -> Slots {
     }
 }
 
-// `  base B, slots: own 2, relayed 0`, where the call broadcast something.
+// `  base B, slots of this line: own 2, relayed 0`, where the call broadcast something.
 pub fn say_slots(base: u8, answer: CallAnswer) -> Slots {
     let own = answer.own;
     let relayed = answer.relayed;
     if answer.first != 0 {
         with_numbers(
-            b"  base #, slots: own #, relayed #\n",
+            b"  base #, slots of this line: own #, relayed #\n",
             [base as usize, own, relayed],
         );
     }

@@ -52,7 +52,7 @@ const OWN: &str = "the identifier is its own";
 /// Behind `accepted`, and before the list of the message that gave way.
 const REPLACED: &str = "accepted, in place of the link's Verify-Final of ";
 /// Behind a base's number.
-const SLOTS: &str = ", slots: ";
+const SLOTS: &str = ", slots of this line: ";
 /// Before each line of the totals.
 const TOTAL: &str = "slots of ";
 
@@ -195,7 +195,7 @@ fn by_the_model(schedule: &[u8]) -> Outcomes {
     outcomes
 }
 
-/// `  base 2, slots: own 2, relayed 1`, where the event's call broadcasts something.
+/// `  base 2, slots of this line: own 2, relayed 1`, where the event's call broadcasts something.
 fn slots(net: &Net, event: &Event) -> Vec<String> {
     let at = event.receiver();
     let mut record = net.records[at - 1];

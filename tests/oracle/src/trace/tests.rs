@@ -18,15 +18,15 @@ fn the_worked_example_is_told() {
 
 #[test]
 fn slots_told_otherwise_are_seen() {
-    let announce = "  base 2, slots: own 0, relayed 1\n";
+    let announce = "  base 2, slots of this line: own 0, relayed 1\n";
     let moved = TRACE.replacen(announce, "", 1).replacen("  base 2 broadcasts 3", &format!("{announce}  base 2 broadcasts 3"), 1);
     let others = [
         TRACE.replacen(announce, "", 1),
         TRACE.replacen(announce, &announce.repeat(2), 1),
-        TRACE.replacen(announce, "  base 1, slots: own 0, relayed 1\n", 1),
-        TRACE.replacen(announce, "  base 2, slots: own 1, relayed 0\n", 1),
+        TRACE.replacen(announce, "  base 1, slots of this line: own 0, relayed 1\n", 1),
+        TRACE.replacen(announce, "  base 2, slots of this line: own 1, relayed 0\n", 1),
         TRACE.replacen("own 2, relayed 0", "own 2, relayed 1", 1),
-        TRACE.replacen("line 8", "  base 2, slots: own 0, relayed 0\nline 8", 1),
+        TRACE.replacen("line 8", "  base 2, slots of this line: own 0, relayed 0\nline 8", 1),
         format!("line 3: id 2 300\n{announce}{TRACE}"),
         moved,
     ];
@@ -57,7 +57,7 @@ fn slots_stand_where_something_was_broadcast() {
   base 2 broadcasts 1: Announce 20
   base 2 broadcasts 2: Verify 20
   base 2 hears Announce 20 from base 1 on link 1: discarded, the identifier is its own
-  base 2, slots: own 2, relayed 0
+  base 2, slots of this line: own 2, relayed 0
 line 8: forge 1 2 0000001401010008
   base 2 hears Announce 20 from base 1 on link 1: discarded, the identifier is its own
 line 9: forge 1 2 00
@@ -76,7 +76,7 @@ base 4 idle
 waiting 4
 ";
     assert!(told_alike(&schedule, trace));
-    let early = "  base 2, slots: own 2, relayed 0\n";
+    let early = "  base 2, slots of this line: own 2, relayed 0\n";
     let moved = trace.replacen(early, "", 1).replacen("  base 2 hears", &format!("{early}  base 2 hears"), 1);
     assert!(!told_alike(&schedule, &moved));
 }
@@ -85,7 +85,7 @@ waiting 4
 #[test]
 fn a_refused_line_has_no_totals() {
     let schedule = "net 2 0\nid 1 500\nid 2 300\nstart 1\ncarry 2 1 1\n";
-    let begin = "line 4: start 1\n  base 1 starts\n  base 1, slots: own 2, relayed 0\n";
+    let begin = "line 4: start 1\n  base 1 starts\n  base 1, slots of this line: own 2, relayed 0\n";
     let end = "line 5: carry 2 1 1
   refused by 16, a carry names a message not yet broadcast
   a is `2`, and up to here that base has broadcast 0 messages
