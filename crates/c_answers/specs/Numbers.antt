@@ -10,6 +10,7 @@ use Rattle.writer.specs.declared.Written.the-variants as writes
 use Rattle.c_answers.specs.declared.CallAnswer.{CallAnswer}
 use Rattle.c_answers.specs.declared.LeaderAnswer.{LeaderAnswer}
 use Rattle.c_answers.specs.declared.WriteAnswer.{WriteAnswer}
+pub mod Laws
 
 -- of a call that was not turned down: accepted is 1, discarded is 2
 abbrev pub inNumbers : ℕ → ℕ → ℕ → ℕ → ℕ → ℕ → CallAnswer

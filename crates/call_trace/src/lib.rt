@@ -17,15 +17,13 @@ use message_text::frames::Caller;
 use message_text::frames::of_start;
 use message_text::frames::say_behind_start;
 use message_text::frames::say_broadcasts;
+use message_text::frames::say_slots;
 use message_text::say;
 use output::with_numbers;
 use protocol::Base;
 use protocol::IDLE;
 use protocol::PRIME;
 use readings::read_numbers;
-use slot_text::Slots;
-use slot_text::no_slots;
-use slot_text::say_slots;
 use starting::start;
 
 fn state_word(state: u8) {
@@ -82,22 +80,21 @@ fn caller_of(b: u8, made: usize, after: Base) -> Caller {
     }
 }
 
-// A start at base b, which had made so many broadcasts; the slots that it took.
-pub fn show_start(b: u8, base: Base, made: usize) -> Slots {
+// A start at base b, which had made so many broadcasts.
+pub fn show_start(b: u8, base: Base, made: usize) {
     if base.state != IDLE {
-        say::base(b, b" has started: discarded\n");
-        return no_slots(b);
+        return say::base(b, b" has started: discarded\n");
     }
-    started(b, base, made)
+    started(b, base, made);
 }
 
-fn started(b: u8, base: Base, made: usize) -> Slots {
+fn started(b: u8, base: Base, made: usize) {
     let mut frames = [0u8; OUTPUT_ROOM];
     let change = start(base, &mut frames);
     let outcome = change.outcome;
     let answer = outcome_numbers(outcome);
     say_start(b, base.n, made, answer, &frames);
-    say_slots(b, answer)
+    say_slots(b, answer);
 }
 
 fn say_start(b: u8, n: u8, made: usize, answer: CallAnswer, frames: &[u8]) {
@@ -149,18 +146,17 @@ fn arrived(
     answered_running(caller, base.sent, after, answer, burst, frames);
 }
 
-// A burst arrives at base b, which had made so many broadcasts; the slots that it took.
-pub fn show_arrival(b: u8, base: Base, made: usize, arrival: Arrival, burst: &[u8]) -> Slots {
+// A burst arrives at base b, which had made so many broadcasts.
+pub fn show_arrival(b: u8, base: Base, made: usize, arrival: Arrival, burst: &[u8]) {
     let mut frames = [0u8; OUTPUT_ROOM];
     let change = arrive(base, arrival.link, burst, &mut frames);
     let outcome = change.outcome;
     let answer = outcome_numbers(outcome);
     if answer.outcome == REFUSED {
-        say_refused(b, arrival, burst, answer.refusal);
-        return no_slots(b);
+        return say_refused(b, arrival, burst, answer.refusal);
     }
     let after = changed_base(base, change);
     let caller = caller_of(b, made, after);
     arrived(caller, base, after, arrival, answer, burst, &frames);
-    say_slots(b, answer)
+    say_slots(b, answer);
 }

@@ -13,8 +13,6 @@ use net::nodes::node_at;
 use node::log::frame_at;
 use numbering::link_to;
 use parts::part;
-use slot_text::Slots;
-use slot_text::no_slots;
 
 // From base a to base b.
 fn arrival_from(a: u8, b: u8, forged: bool) -> Arrival {
@@ -25,38 +23,38 @@ fn arrival_from(a: u8, b: u8, forged: bool) -> Arrival {
     }
 }
 
-fn base_starts(net: StoredNet, b: u8) -> Slots {
+fn base_starts(net: StoredNet, b: u8) {
     let node = node_at(net, b);
-    show_start(b, node.base, node.count)
+    show_start(b, node.base, node.count);
 }
 
-fn arrives(net: StoredNet, b: u8, arrival: Arrival, burst: &[u8]) -> Slots {
+fn arrives(net: StoredNet, b: u8, arrival: Arrival, burst: &[u8]) {
     let node = node_at(net, b);
-    show_arrival(b, node.base, node.count, arrival, burst)
+    show_arrival(b, node.base, node.count, arrival, burst);
 }
 
 // Broadcast k of base a.
-fn carried(net: StoredNet, a: u8, b: u8, k: usize) -> Slots {
+fn carried(net: StoredNet, a: u8, b: u8, k: usize) {
     let frame = frame_at(node_at(net, a), k);
     let bytes = frame.bytes;
     let burst = part(&bytes, 0, frame.len);
-    arrives(net, b, arrival_from(a, b, false), burst)
+    arrives(net, b, arrival_from(a, b, false), burst);
 }
 
 // A forgery whose bytes stand in the schedule.
-fn forged(s: &[u8], net: StoredNet, a: u8, b: u8, at: usize, count: usize) -> Slots {
+fn forged(s: &[u8], net: StoredNet, a: u8, b: u8, at: usize, count: usize) {
     let bytes = hex_array(s, at, count);
     let burst = part(&bytes, 0, count);
-    arrives(net, b, arrival_from(a, b, true), burst)
+    arrives(net, b, arrival_from(a, b, true), burst);
 }
 
-// The line that is next in the net, and what it does; the slots that it took.
-pub fn show_event(s: &[u8], net: StoredNet) -> Slots {
+// The line that is next in the net, and what it does.
+pub fn show_event(s: &[u8], net: StoredNet) {
     let here = net.at;
     match event_line(net.n, s, here) {
         Line::Start { base, next } => {
             show_line(s, here, net.line, next);
-            base_starts(net, base)
+            base_starts(net, base);
         }
         Line::Carry {
             from,
@@ -65,7 +63,7 @@ pub fn show_event(s: &[u8], net: StoredNet) -> Slots {
             next,
         } => {
             show_line(s, here, net.line, next);
-            carried(net, from, to, number as usize)
+            carried(net, from, to, number as usize);
         }
         Line::Forge {
             from,
@@ -75,8 +73,8 @@ pub fn show_event(s: &[u8], net: StoredNet) -> Slots {
             next,
         } => {
             show_line(s, here, net.line, next);
-            forged(s, net, from, to, at, count)
+            forged(s, net, from, to, at, count);
         }
-        Line::Wrong => no_slots(0),
+        Line::Wrong => {}
     }
 }

@@ -66,3 +66,13 @@ pub fn say_broadcasts(caller: Caller, answer: CallAnswer, last: bool, frames: &[
     let place = plus(answer.first, answer.second);
     say_broadcast(b, n, plus(made, 3), part(frames, place, third));
 }
+
+// The slots of what a call broadcast, where it broadcast something.
+pub fn say_slots(b: u8, answer: CallAnswer) {
+    if answer.first != 0 {
+        with_numbers(
+            b"  base #, slots of this line: own #, relayed #\n",
+            [b as usize, answer.own, answer.relayed],
+        );
+    }
+}

@@ -1,13 +1,18 @@
 -- Airtime (document 02, request 2): of the messages that a base says, the slots that are its own and those that it relays, "each counted
 -- once though every link gets it".
-use Prim.Native.Nat.{ℕ}
+use Prim.Native.Nat.{ℕ, _+_}
 use mathlib.Core.Bool.{Bool, true, false}
 use mathlib.Core.List.{List}
 use lib.Dec.{eqb}
+use lib.ListN.{length}
+use Rattle.limits.specs.Limits.{listSlots}
 use Rattle.lists.specs.Choice.{choose}
 use Rattle.lists.specs.Lists.{sumOver}
 use Rattle.frame.specs.Message.{Message, announce, verify, correctFinal, verifyFinal}
 use Rattle.frame.specs.Slots.{slotsOf}
+use Rattle.protocol.specs.declared.Base.{Base}
+use Rattle.protocol.specs.Record.{linkAt, linkCount, announced}
+use Rattle.protocol.specs.Sound.{idle, stopped}
 pub mod Laws
 pub mod Statement
 pub mod Theorem
@@ -31,3 +36,12 @@ ownSlots own says = sumOver says (ownPart own)
 
 unfoldable pub relayedSlots : ℕ → List Message → ℕ
 relayedSlots own says = sumOver says (relayedPart own)
+
+-- ---- what a record tells of the slots that its base has taken since it was idle
+-- own: the two frames of its start, and a Correct-Final if it has stopped
+unfoldable pub ownTaken : Base → ℕ
+ownTaken b = choose (idle b) 0 2 + choose (stopped b) (listSlots (b .n)) 0
+
+-- relayed: a Verify for each identifier that was announced to it, and a Verify-Final if one was sent
+unfoldable pub relayedTaken : Base → ℕ
+relayedTaken b = length (announced (linkCount b) (linkAt b)) + choose (eqb (b .sent) 0) 0 (listSlots (b .n))

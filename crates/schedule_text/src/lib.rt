@@ -1,5 +1,7 @@
-// The lines of a schedule's header as they stand, and what is told behind the lines: what waits, or why one is refused.
+// The lines of a schedule's header as they stand, and what is told behind the lines: what waits and the slots of each base, or why a line is
+// refused.
 pub mod refused;
+pub mod slots;
 pub mod waits;
 
 use header::read_header;

@@ -1,5 +1,5 @@
-// The lines of a schedule one after another, what each did, and behind them what waits and how much airtime each base took, or why a line
-// is refused, told on standard output. Each line of events is taken by the replay's own step.
+// The lines of a schedule one after another, what each did, and behind them what waits and the slots of each base, or why a line is refused,
+// told on standard output. Each line of events is taken by the replay's own step.
 use event_lines::line_steps;
 use limits::LONGEST_SCHEDULE;
 use line_trace::show_event;
@@ -9,60 +9,41 @@ use schedule_text::refused::explain_event;
 use schedule_text::refused::explain_header;
 use schedule_text::refused::explain_length;
 use schedule_text::show_header;
+use schedule_text::slots::say_slots_taken;
 use schedule_text::waits::itemise;
-use slot_text::Totals;
-use slot_text::no_totals;
-use slot_text::say_totals;
-use slot_text::with_slots;
 
-// The net behind the lines so far, and the slots of each base.
-struct Traced {
-    net: StoredNet,
-    totals: Totals,
-}
-
-fn step(s: &[u8], before: Traced) -> Traced {
-    let net = before.net;
-    let totals = before.totals;
+fn step(s: &[u8], net: StoredNet) -> StoredNet {
     let after = line_steps(s, net, 1);
-    if after.refusal != 0 {
-        return Traced { net: after, totals };
+    if after.refusal == 0 {
+        show_event(s, net);
     }
-    Traced {
-        net: after,
-        totals: with_slots(totals, show_event(s, net)),
-    }
+    after
 }
 
 // Every event, up to the schedule's end or the first line that is refused.
-fn steps(s: &[u8], first: StoredNet) -> Traced {
-    let mut traced = Traced {
-        net: first,
-        totals: no_totals(),
-    };
+fn steps(s: &[u8], first: StoredNet) -> StoredNet {
+    let mut net = first;
     let mut k: usize = 0;
     while k < s.len() {
         k += 1;
-        if traced.net.refusal != 0 {
-            return traced;
+        if net.refusal != 0 {
+            return net;
         }
-        if s.len() <= traced.net.at {
-            return traced;
+        if s.len() <= net.at {
+            return net;
         }
-        traced = step(s, traced);
+        net = step(s, net);
     }
-    traced
+    net
 }
 
 // What stands behind the events.
-fn ending(schedule: &[u8], traced: Traced) {
-    let net = traced.net;
-    let totals = traced.totals;
+fn ending(schedule: &[u8], net: StoredNet) {
     if net.refusal != 0 {
         return explain_event(schedule, net);
     }
     itemise(net);
-    say_totals(totals, net.n);
+    say_slots_taken(net);
 }
 
 // The lines, and what stands behind them.

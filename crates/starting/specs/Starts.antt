@@ -5,21 +5,19 @@ use mathlib.Core.Logic.{_≢_}
 use mathlib.Core.List.{List, [], _∷_}
 use native.Mathlib.Omega.{arith}
 use borrow.Author.Tests.{eq-eqb, ne-eqb}
-use lib.ListN.{length}
+use lib.ListN.{length, getD}
 use Rattle.limits.specs.Limits.{frameBytes, outputRoom}
 use Rattle.lists.specs.Choice.{first}
 use Rattle.lists.specs.Choice.Laws.{choose-yes, choose-no, first-passed}
 use Rattle.lists.specs.Lists.{sumOver}
-use Rattle.frame.specs.Message.{announce, verify, kindOf, idsOf}
-use Rattle.frame.specs.Encoding.{frameOf, encode, over}
-use Rattle.frame.specs.Encoding.Laws.{length-frame}
+use Rattle.frame.specs.Encoding.{over}
 use Rattle.protocol.specs.declared.Base.{Base}
 use Rattle.protocol.specs.declared.Outcome.the-variants.{Accepted}
 use Rattle.protocol.specs.Sound.{idle, recordRefusal}
 use Rattle.protocol.specs.Steps.{refuses, discards, accepts, withState, begins, startStep, outputRefusal, start}
 use Rattle.protocol.specs.Steps.{lengths, outcomeWith, outcomeOf, outputOf}
-use Rattle.protocol.specs.Airtime.{ownPart, relayedPart, ownSlots, relayedSlots}
-use Rattle.protocol.specs.Airtime.Laws.{announce-part, own-verify-part}
+use Rattle.protocol.specs.Airtime.{ownSlots, relayedSlots}
+use Rattle.protocol.specs.Airtime.Laws.{start-alone}
 use Rattle.protocol.specs.Steps.Refusals.{unless-passed, unless-refused, output-passed}
 use Rattle.change.specs.declared.Change.{Change}
 use Rattle.change.specs.Change.{changedBase, Does}
@@ -45,15 +43,8 @@ module _ (b : Base) (room r : ℕ) (e : r ≡ first (recordRefusal b) (outputRef
 
 -- ---- the two frames
 begins-outcome : (b : Base) → Accepted (frameBytes 1) (frameBytes 1) 0 2 0 ≡ outcomeOf (begins b)
-unfolding begins accepts withState outcomeWith lengths ownSlots relayedSlots sumOver encode kindOf idsOf
-begins-outcome b =
-    let announced : frameBytes 1 ≡ length (frameOf 1 (b .own ∷ [])) = sym (length-frame 1 (b .own ∷ [])) in
-    let verified : frameBytes 1 ≡ length (frameOf 2 (b .own ∷ [])) = sym (length-frame 2 (b .own ∷ [])) in
-    let own : 2 ≡ ownPart (b .own) (announce (b .own)) + (ownPart (b .own) (verify (b .own)) + 0) =
-    omega (arith, announce-part (b .own) (b .own) .0, own-verify-part (b .own) .0) in
-    let relayed : 0 ≡ relayedPart (b .own) (announce (b .own)) + (relayedPart (b .own) (verify (b .own)) + 0) =
-    omega (arith, announce-part (b .own) (b .own) .1, own-verify-part (b .own) .1) in
-    λ j. Accepted (announced j) (verified j) 0 (own j) (relayed j)
+unfolding begins accepts withState outcomeWith
+begins-outcome b = sym (start-alone (b .own) Accepted)
 
 pub begins-does : (b : Base) (c : Change) (s : StartSizes) (output after : List ℕ) → outputRoom ≤ length output
     → s ≡ startSizes (length output)

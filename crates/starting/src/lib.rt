@@ -27,15 +27,15 @@ pub fn start(base: Base, out: &mut [u8]) -> Change
     if base.state != IDLE {
         return discarded(base, base.state);
     }
-    let two = begin(base.n, base.own, out);
+    let begun = begin(base.n, base.own, out);
     only_state(
         base,
         RUNNING,
         Outcome::Accepted {
-            first: two.announce,
-            second: two.verify,
+            first: begun.announce,
+            second: begun.verify,
             third: 0,
-            own: two.slots,
+            own: begun.slots,
             relayed: 0,
         },
     )

@@ -118,7 +118,7 @@ module _ (b : Base) (link number kind : ℕ) (ids output : List ℕ) (passes : h
         let one : startLength room ≡ frameBytes 1 = start-length-is room (omega (arith, wide)) in
         let T = responds rest _ _ (omega (arith, wide, quiet .brief .small, rest-long, start-long (b .own) room, one)) refl refl in
         let same : room - length start ≡ length rest = sym rest-long in
-        behind-does b m _ r (startSizes room) _ _ output after T (quiet .relays) (start-sizes-are room (omega (arith, wide)))
+        behind-does b m _ r (startSizes room) _ _ output after T (quiet .not-own) (start-sizes-are room (omega (arith, wide)))
         (ap (λ (c : Change). c .outcome) p ∙ ap firstOutcome same)
         (ap (changedBase b) p)
         (q ∙ ap (λ (l : ℕ). over (start ++ responseFrames (b .n) (a .accepted) D ids l) output) same

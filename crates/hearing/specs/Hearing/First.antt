@@ -1,6 +1,6 @@
 -- An arrival by the base's state: at a running base the message alone, at an idle one the two frames of the start and the message's
 -- frame behind them.
-use Prim.Native.Nat.{ℕ, _-_, _≤_, _<_}
+use Prim.Native.Nat.{ℕ, _+_, _-_, _≤_, _<_}
 use mathlib.Core.Path.{_≡_, refl, sym, ap, ap₂, _∙_}
 use mathlib.Core.Logic.{_≢_}
 use mathlib.Core.List.{List, [], _∷_, _++_}
@@ -18,13 +18,14 @@ use Rattle.frame.specs.Reading.{message}
 use Rattle.frame.specs.Encoding.{encode, over}
 use Rattle.frame.specs.Encoding.Laws.{length-frame}
 use Rattle.protocol.specs.declared.Base.{Base}
+use Rattle.protocol.specs.declared.Outcome.{Outcome}
 use Rattle.protocol.specs.declared.Outcome.the-variants.{Accepted, Discarded}
 use Rattle.protocol.specs.Airtime.{ownSlots, relayedSlots}
-use Rattle.protocol.specs.Airtime.Laws.{announce-part, own-verify-part}
+use Rattle.protocol.specs.Airtime.Laws.{start-answer}
 use Rattle.protocol.specs.Sound.{idle, stopped, recordRefusal}
 use Rattle.protocol.specs.Sound.Laws.{record-passed}
 use Rattle.protocol.specs.Steps.{Answer, accepted, discarded, refused, Done, accepts, withState, begins, onMessage, arrivalStep}
-use Rattle.protocol.specs.Steps.{encodeAll, lengths, outcomeWith, outcomeOf, outputOf}
+use Rattle.protocol.specs.Steps.{encodeAll, lengths, withSums, outcomeWith, outcomeOf, outputOf}
 use Rattle.protocol.specs.Steps.Cases.{begun, afterStart}
 use Rattle.protocol.specs.Steps.Sizes.{message-brief, said-fits}
 use Rattle.change.specs.declared.Change.{Change}
@@ -80,29 +81,18 @@ arrival-running b i m h k =
     one s p q = omega (arith, q)
 
 -- ---- a base that starts first
-announce-long : (own : ℕ) → frameBytes 1 ≡ length (encode (announce own))
-unfolding encode kindOf idsOf
-announce-long own = sym (length-frame 1 (own ∷ []))
-
-verify-long : (own : ℕ) → frameBytes 1 ≡ length (encode (verify own))
-unfolding encode kindOf idsOf
-verify-long own = sym (length-frame 2 (own ∷ []))
-
 module _ (own : ℕ) (says : List Message) (o : ownSlots own says ≡ 0) where
-  own-behind : 2 ≡ ownSlots own (announce own ∷ (verify own ∷ says))
-  unfolding ownSlots sumOver
-  own-behind = omega (arith, announce-part own own .0, own-verify-part own .0, o)
-
-  relayed-behind : relayedSlots own says ≡ relayedSlots own (announce own ∷ (verify own ∷ says))
-  unfolding relayedSlots sumOver
-  relayed-behind = omega (arith, announce-part own own .1, own-verify-part own .1)
+  behind : (ends : ℕ → ℕ → ℕ → ℕ → ℕ → Outcome) → ends (frameBytes 1) (frameBytes 1) (getD (lengths says) 0 0) 2 (relayedSlots own says)
+      ≡ withSums ends own (announce own ∷ (verify own ∷ says))
+  behind ends =
+      let two : 2 ≡ 2 + ownSlots own says = omega (arith, o) in
+      ap (λ (k : ℕ). ends (frameBytes 1) (frameBytes 1) (getD (lengths says) 0 0) k (relayedSlots own says)) two
+      ∙ sym (start-answer own says ends)
 
   behind-outcome : (a : Answer) → behindStart writtenStart (outcomeWith own a says) ≡ outcomeWith own a (announce own ∷ (verify own ∷ says))
-  unfolding behindStart outcomeWith lengths
-  behind-outcome accepted =
-      λ i. Accepted (announce-long own i) (verify-long own i) (getD (lengths says) 0 0) (own-behind i) (relayed-behind i)
-  behind-outcome discarded =
-      λ i. Discarded (announce-long own i) (verify-long own i) (getD (lengths says) 0 0) (own-behind i) (relayed-behind i)
+  unfolding behindStart outcomeWith
+  behind-outcome accepted = behind Accepted
+  behind-outcome discarded = behind Discarded
   behind-outcome (refused r) = refl
 
 behind-output : (b : Base) (d : Done) (output after : List ℕ) → after ≡ over (encodeAll (begins b .says) ++ encodeAll (d .says)) output

@@ -6,15 +6,19 @@ use mathlib.Core.Bool.{Bool, true, false}
 use mathlib.Core.List.{List, [], _∷_, _++_}
 use native.Mathlib.Omega.{arith}
 use borrow.Author.Tests.{eq-eqb, ne-eqb}
-use lib.ListN.{length}
-use Rattle.limits.specs.Limits.{listSlots}
+use lib.ListN.{length, getD}
+use Rattle.limits.specs.Limits.{frameBytes, listSlots}
 use Rattle.lists.specs.Choice.{choose}
 use Rattle.lists.specs.Choice.Laws.{choose-yes, choose-no}
 use Rattle.lists.specs.Lists.{sumOver}
 use Rattle.lists.specs.Lists.Sums.{sum-over-append}
 use Rattle.frame.specs.Message.{Message, announce, verify, correctFinal, verifyFinal, idsOf}
+use Rattle.frame.specs.Encoding.{encode}
 use Rattle.frame.specs.Slots.{slotsOf}
 use Rattle.frame.specs.Slots.Laws.{slots-by-count}
+use Rattle.protocol.specs.declared.Outcome.{Outcome}
+use Rattle.protocol.specs.Steps.{lengths, withSums}
+use Rattle.protocol.specs.Steps.Sizes.{length-encode}
 use Rattle.protocol.specs.Airtime.{isOwn, ownPart, relayedPart, ownSlots, relayedSlots}
 
 -- ---- each message is in one of the two sums
@@ -64,26 +68,66 @@ pub vote-part : (own : ℕ) (v : List ℕ)
 unfolding idsOf isOwn
 vote-part own v = relayed-part own (verifyFinal v) refl
 
+-- ---- the two messages of a start, and those behind them
+pub start-parts : (own : ℕ)
+    → (ownPart own (announce own) + ownPart own (verify own) ≡ 2) × (relayedPart own (announce own) + relayedPart own (verify own) ≡ 0)
+start-parts own =
+    let a = announce-part own own in
+    let v = own-verify-part own in
+    (omega (arith, a .0, v .0), omega (arith, a .1, v .1))
+
+module _ (own : ℕ) (says : List Message) where
+  start-own : ownSlots own (announce own ∷ (verify own ∷ says)) ≡ 2 + ownSlots own says
+  unfolding ownSlots sumOver
+  start-own = omega (arith, start-parts own .0)
+
+  start-relayed : relayedSlots own (announce own ∷ (verify own ∷ says)) ≡ relayedSlots own says
+  unfolding relayedSlots sumOver
+  start-relayed = omega (arith, start-parts own .1)
+
+  announce-long : length (encode (announce own)) ≡ frameBytes 1
+  unfolding idsOf
+  announce-long = length-encode (announce own)
+
+  verify-long : length (encode (verify own)) ≡ frameBytes 1
+  unfolding idsOf
+  verify-long = length-encode (verify own)
+
+  -- an answer with the frames of a start first
+  pub start-answer : (ends : ℕ → ℕ → ℕ → ℕ → ℕ → Outcome) → withSums ends own (announce own ∷ (verify own ∷ says))
+      ≡ ends (frameBytes 1) (frameBytes 1) (getD (lengths says) 0 0) (2 + ownSlots own says) (relayedSlots own says)
+  unfolding lengths
+  start-answer ends = λ i. ends (announce-long i) (verify-long i) (getD (lengths says) 0 0) (start-own i) (start-relayed i)
+
+-- with nothing behind them
+pub start-alone : (own : ℕ) (ends : ℕ → ℕ → ℕ → ℕ → ℕ → Outcome)
+    → withSums ends own (announce own ∷ (verify own ∷ [])) ≡ ends (frameBytes 1) (frameBytes 1) 0 2 0
+start-alone own ends = start-answer own [] ends ∙ nothing
+  where
+    nothing : ends (frameBytes 1) (frameBytes 1) (getD (lengths []) 0 0) (2 + ownSlots own []) (relayedSlots own [])
+        ≡ ends (frameBytes 1) (frameBytes 1) 0 2 0
+    nothing = unfold lengths ownSlots relayedSlots sumOver in refl
+
 -- ---- what a base says at a message: what it relays, and a Correct-Final of its own
-pub none-relayed : (own : ℕ) → ownSlots own [] ≡ 0
+pub nothing-not-own : (own : ℕ) → ownSlots own [] ≡ 0
 unfolding ownSlots sumOver
-none-relayed own = refl
+nothing-not-own own = refl
 
-pub verify-relayed : (own g : ℕ) → g ≢ own → ownSlots own (verify g ∷ []) ≡ 0
+pub verify-not-own : (own g : ℕ) → g ≢ own → ownSlots own (verify g ∷ []) ≡ 0
 unfolding ownSlots sumOver
-verify-relayed own g ne = omega (arith, verify-part own g ne .0)
+verify-not-own own g ne = omega (arith, verify-part own g ne .0)
 
-pub vote-relayed : (own : ℕ) (v : List ℕ) → ownSlots own (verifyFinal v ∷ []) ≡ 0
+pub vote-not-own : (own : ℕ) (v : List ℕ) → ownSlots own (verifyFinal v ∷ []) ≡ 0
 unfolding ownSlots sumOver
-vote-relayed own v = omega (arith, vote-part own v .0)
+vote-not-own own v = omega (arith, vote-part own v .0)
 
-pub none-own : (own : ℕ) → relayedSlots own [] ≡ 0
+pub nothing-not-relayed : (own : ℕ) → relayedSlots own [] ≡ 0
 unfolding relayedSlots sumOver
-none-own own = refl
+nothing-not-relayed own = refl
 
-pub final-own : (own : ℕ) (v : List ℕ) → relayedSlots own (correctFinal v ∷ []) ≡ 0
+pub final-not-relayed : (own : ℕ) (v : List ℕ) → relayedSlots own (correctFinal v ∷ []) ≡ 0
 unfolding relayedSlots sumOver
-final-own own v = omega (arith, final-part own v .1)
+final-not-relayed own v = omega (arith, final-part own v .1)
 
 pub slots-append : (own : ℕ) (a b : List Message)
     → (ownSlots own (a ++ b) ≡ ownSlots own a + ownSlots own b) × (relayedSlots own (a ++ b) ≡ relayedSlots own a + relayedSlots own b)

@@ -3,6 +3,7 @@
 -- bursts and output lengths, calls that are turned down among them.
 use Prim.Native.Nat.{ℕ, _+_, _*_, _-_, _≤_}
 use mathlib.Core.Path.{_≡_}
+use mathlib.Core.Bool.{true}
 use mathlib.Core.List.{List, [], _∷_}
 use Rattle.limits.specs.Limits.{listSlots}
 use Rattle.lists.specs.Lists.{sumOver}
@@ -10,9 +11,11 @@ use Rattle.frame.specs.Slots.{slotsOf}
 use Rattle.protocol.specs.declared.Base.{Base}
 use Rattle.protocol.specs.declared.Outcome.{Outcome}
 use Rattle.protocol.specs.declared.Outcome.the-variants.{Accepted, Discarded, Refused}
+use Rattle.protocol.specs.Airtime.{ownTaken, relayedTaken}
 use Rattle.protocol.specs.Record.Memory.{Sized}
+use Rattle.protocol.specs.Sound.{idle, recordRefusal}
 use Rattle.protocol.specs.Steps.{outcomeOf}
-use Rattle.protocol.specs.Steps.Calls.{Call, called, AllBytes, life}
+use Rattle.protocol.specs.Steps.Calls.{Call, called, AllBytes, afterCalls, life}
 
 -- the sums that a call answers with; one that is turned down has none
 unfoldable pub ownOf : Outcome → ℕ
@@ -39,3 +42,12 @@ pub record LifeSlots (b : Base) (calls : List Call) : Type 0 where
 -- It is asked from an idle record and holds from any. The premises are facts of memory: an array has its length, a burst is made of bytes.
 abbrev pub Airtime : Type 0
 Airtime = (b : Base) (calls : List Call) → Sized b → AllBytes calls → LifeSlots b calls
+
+-- From an idle record that is not turned down, the record that the calls leave tells both sums.
+pub record TaleOf (b : Base) (calls : List Call) : Type 0 where
+  pub own : answered ownOf b calls ≡ ownTaken (afterCalls b calls)
+  pub relayed : answered relayedOf b calls ≡ relayedTaken (afterCalls b calls)
+
+abbrev pub RecordTells : Type 0
+RecordTells =
+    (b : Base) (calls : List Call) → Sized b → AllBytes calls → recordRefusal b ≡ 0 → idle b ≡ true → TaleOf b calls

@@ -2,27 +2,34 @@
 -- those of all that was broadcast; and each message weighs what `Steps/Life` asks of a weight, once in own slots, once in relayed ones.
 use Prim.Native.Nat.{ℕ, _+_, _*_, _-_, _≤_}
 use mathlib.Core.Path.{_≡_, refl, sym, ap, _∙_, subst}
+use mathlib.Core.Bool.{Bool, true}
 use mathlib.Core.List.{List, [], _∷_}
 use native.Mathlib.Decide.{ℕ-discrete}
 use native.Mathlib.Omega.{arith}
-use Rattle.limits.specs.Limits.{mostBases, listSlots}
+use lib.Dec.{eqb, leb}
+use Rattle.limits.specs.Limits.{mostBases, frameBytes, listSlots}
+use Rattle.lists.specs.Choice.{choose}
+use Rattle.lists.specs.Choice.Laws.{choose-ind}
 use Rattle.lists.specs.Lists.{sumOver}
 use Rattle.lists.specs.Lists.Sums.{sum-over-append}
 use Rattle.frame.specs.Message.{Message}
 use Rattle.frame.specs.Slots.{slotsOf}
 use Rattle.protocol.specs.declared.Base.{Base}
+use Rattle.protocol.specs.declared.Outcome.the-variants.{Discarded}
 use Rattle.protocol.specs.Record.Memory.{Sized}
-use Rattle.protocol.specs.Sound.{recordRefusal}
+use Rattle.protocol.specs.Sound.{idle, stopped, recordRefusal}
 use Rattle.protocol.specs.Sound.Laws.{record-passed}
-use Rattle.protocol.specs.Steps.{Done, refuses, discards, accepts, stops, begins, outcomeWith}
-use Rattle.protocol.specs.Steps.Calls.{Call, startCall, arrivalCall, called, AllBytes, life, call-held, refused-for-ever}
+use Rattle.protocol.specs.Steps.{discarded, Done, refuses, discards, accepts, withState, stops, begins, arrivalStep, outcomeWith, outcomeOf}
+use Rattle.protocol.specs.Steps.Answers.{idle-discarded}
+use Rattle.protocol.specs.Steps.Calls.{Call, startCall, arrivalCall, called, AllBytes, afterCalls, life, call-held}
+use Rattle.protocol.specs.Steps.Calls.{after-setting, refused-for-ever}
 use Rattle.protocol.specs.Steps.Cases.{Ends, discarding, runningOn, stopping, message-ends, begun, afterStart}
 use Rattle.protocol.specs.Steps.Cases.{start-step-cases, arrival-step-cases}
-use Rattle.protocol.specs.Steps.Life.{Weights, Weighs, life-weight-most}
+use Rattle.protocol.specs.Steps.Life.{Weights, Weighs, spentBy, spent, idle-spent, life-weight, life-weight-most}
 use Rattle.protocol.specs.Steps.Refusals.{start-cases, arrival-cases}
-use Rattle.protocol.specs.Airtime.{ownPart, relayedPart, ownSlots, relayedSlots}
-use Rattle.protocol.specs.Airtime.Laws.{sums-whole, announce-part, own-verify-part, verify-part, final-part, vote-part}
-use Rattle.protocol.specs.Airtime.Statement.{ownOf, relayedOf, answered, Airtime}
+use Rattle.protocol.specs.Airtime.{ownPart, relayedPart, ownSlots, relayedSlots, ownTaken, relayedTaken}
+use Rattle.protocol.specs.Airtime.Laws.{sums-whole, start-parts, start-alone, verify-part, final-part, vote-part}
+use Rattle.protocol.specs.Airtime.Statement.{ownOf, relayedOf, answered, Airtime, RecordTells}
 
 -- ---- the sums that a call answers with are those of what it says
 abbrev Sums : ℕ → Done → Type 0
@@ -83,16 +90,16 @@ module _ {own : ℕ} where
 
 -- ---- what the messages weigh
 ownWeights : ℕ → Weights
-ownWeights n = record { start = 2; relay = 0; vote = 0; final = listSlots n }
+ownWeights n = record { start = 2; other = 0; vote = 0; final = listSlots n }
 
 relayedWeights : ℕ → Weights
-relayedWeights n = record { start = 0; relay = 1; vote = listSlots n; final = 0 }
+relayedWeights n = record { start = 0; other = 1; vote = listSlots n; final = 0 }
 
 own-weigh : (own n : ℕ) → Weighs (ownWeights n) (ownPart own) own n
 unfolding ownWeights
 own-weigh own n = record {
-  starts = omega (arith, announce-part own own .0, own-verify-part own .0);
-  relays = λ g ne. verify-part own g ne .0;
+  starts = start-parts own .0;
+  others = λ g ne. verify-part own g ne .0;
   votes = λ v _. vote-part own v .0;
   finals = λ v l. final-part own v .0 ∙ ap listSlots l;
 }
@@ -100,8 +107,8 @@ own-weigh own n = record {
 relayed-weigh : (own n : ℕ) → Weighs (relayedWeights n) (relayedPart own) own n
 unfolding relayedWeights
 relayed-weigh own n = record {
-  starts = omega (arith, announce-part own own .1, own-verify-part own .1);
-  relays = λ g ne. verify-part own g ne .1;
+  starts = start-parts own .1;
+  others = λ g ne. verify-part own g ne .1;
   votes = λ v l. vote-part own v .1 ∙ ap listSlots l;
   finals = λ v _. final-part own v .1;
 }
@@ -143,6 +150,37 @@ airtime b calls S bytes = record {
   relayed-most = relayed-most b calls S bytes;
 }
 
--- "35 for 16 bases"
+-- ---- what the record tells
+either-way : (t : Bool) (x : ℕ) → choose t x x ≡ x
+either-way t x = choose-ind (λ (k : ℕ). k ≡ x) t (λ _. refl) (λ _. refl)
+
+own-spent : (b : Base) → spent (ownWeights (b .n)) b ≡ ownTaken b
+unfolding ownWeights spent spentBy ownTaken idle stopped
+own-spent b = omega (arith, either-way (eqb (b .sent) 0) 0)
+
+relayed-spent : (b : Base) → spent (relayedWeights (b .n)) b ≡ relayedTaken b
+unfolding relayedWeights spent spentBy relayedTaken
+relayed-spent b = omega (arith, either-way (eqb (b .state) 0) 0, either-way (leb 2 (b .state)) 0)
+
+pub record-tells : RecordTells
+record-tells b calls S bytes e off =
+    let A = answered-sums b calls refl S bytes in
+    let same = after-setting b calls S bytes .n in
+    let own = life-weight (ownWeights (b .n)) (ownPart (b .own)) b calls (own-weigh (b .own) (b .n)) S bytes in
+    let relayed = life-weight (relayedWeights (b .n)) (relayedPart (b .own)) b calls (relayed-weigh (b .own) (b .n)) S bytes in
+    let last = afterCalls b calls in record {
+      own = A .0 ∙ omega (arith, own, idle-spent (ownWeights (b .n)) b e off)
+          ∙ ap (λ (n : ℕ). spent (ownWeights n) last) (sym same) ∙ own-spent last;
+      relayed = A .1 ∙ omega (arith, relayed, idle-spent (relayedWeights (b .n)) b e off)
+          ∙ ap (λ (n : ℕ). spent (relayedWeights n) last) (sym same) ∙ relayed-spent last;
+    }
+
+-- ---- "A discarded arrival at an idle base has own 2, relayed 0."
+pub idle-discarded-slots : (b : Base) (i : ℕ) (m : Message) → idle b ≡ true → arrivalStep b i m .answer ≡ discarded
+    → outcomeOf (arrivalStep b i m) ≡ Discarded (frameBytes 1) (frameBytes 1) 0 2 0
+unfolding afterStart discards withState outcomeWith
+idle-discarded-slots b i m off e = ap outcomeOf (idle-discarded b i m off e) ∙ start-alone (b .own) Discarded
+
+-- ---- "35 for 16 bases"
 pub largest-net : (b : Base) (calls : List Call) → Sized b → AllBytes calls → b .n ≡ mostBases → sumOver (life b calls) slotsOf ≤ 35
 largest-net b calls S bytes e = let A = airtime b calls S bytes .most in omega (arith, e, A)

@@ -18,7 +18,7 @@ use Rattle.frame.specs.Message.{Message, verify, idsOf}
 use Rattle.protocol.specs.declared.Link.{Link}
 use Rattle.protocol.specs.declared.Base.{Base}
 use Rattle.protocol.specs.Airtime.{ownSlots}
-use Rattle.protocol.specs.Airtime.Laws.{none-relayed, verify-relayed}
+use Rattle.protocol.specs.Airtime.Laws.{nothing-not-own, verify-not-own}
 use Rattle.protocol.specs.Links.{announces, holdsVerify, holdsCorrect}
 use Rattle.protocol.specs.Links.Laws.{no-verify, no-announce, no-correct}
 use Rattle.protocol.specs.Record.{linkAt, linkCount, links, certified, tally, tallySum, correctCount}
@@ -80,7 +80,7 @@ pub record Quiet (c : Base) (d : Done) : Type 0 where
   pub state : d .base .state ≡ c .state
   pub sent : d .base .sent ≡ c .sent
   pub brief : Brief 1 (frameBytes 1) d
-  pub relays : ownSlots (c .own) (d .says) ≡ 0
+  pub not-own : ownSlots (c .own) (d .says) ≡ 0
 
 module _ (c : Base) (N : NetSize (c .n)) (few : c .t ≤ mostFaulty (c .n)) (blank : HoldsNothing c) (i : ℕ)
     (fits : i < length (c .links)) (here : i < mostLinks) where
@@ -131,7 +131,7 @@ module _ (c : Base) (N : NetSize (c .n)) (few : c .t ≤ mostFaulty (c .n)) (bla
     state = p;
     sent = q;
     brief = record { few = omega (arith, ap length e); small = omega (arith, ap (λ (l : List Message). length (encodeAll l)) e) };
-    relays = ap (ownSlots (c .own)) e ∙ none-relayed (c .own);
+    not-own = ap (ownSlots (c .own)) e ∙ nothing-not-own (c .own);
   }
 
   takes-quiet : {m : Message} {d : Base} {said : List Message} → Takes c i m d said → Quiet c (accepts d said)
@@ -140,7 +140,7 @@ module _ (c : Base) (N : NetSize (c .n)) (few : c .t ≤ mostFaulty (c .n)) (bla
     state = refl;
     sent = refl;
     brief = record { few = omega arith; small = omega (arith, bytes-one (verify g)) };
-    relays = verify-relayed (c .own) g (uncertified-other c g q);
+    not-own = verify-not-own (c .own) g (uncertified-other c g q);
   }
   takes-quiet (takesVerify g p q) = silent refl refl refl
   takes-quiet (takesCorrect v o p) = silent refl refl refl

@@ -4,11 +4,11 @@
 use Prim.Native.Nat.{ℕ, suc, _+_, _*_, _-_, _≤_, _<_}
 use mathlib.Core.Path.{_≡_, refl, sym, ap, _∙_, subst, subst₂}
 use mathlib.Core.Logic.{_≢_}
-use mathlib.Core.Bool.{Bool, true}
+use mathlib.Core.Bool.{Bool, true, false, not}
 use mathlib.Core.List.{List, [], _∷_}
-use native.Mathlib.Nat.{suc-mul, mul-le-mul-right}
+use native.Mathlib.Nat.{zero-mul, suc-mul, mul-le-mul-right}
 use native.Mathlib.Omega.{arith}
-use borrow.Author.Tests.{eqb-true}
+use borrow.Author.Tests.{eqb-true, eq-eqb}
 use lib.Dec.{eqb, leb}
 use lib.ListN.{length}
 use Rattle.limits.specs.Refusals.{NetSize}
@@ -19,12 +19,13 @@ use Rattle.lists.specs.Lists.Sets.{inserted-length, nonzero-one}
 use Rattle.lists.specs.Lists.Sums.{sum-over-append, sum-over-ones}
 use Rattle.frame.specs.Message.{Message, announce, verify, correctFinal, verifyFinal, idsOf, Valid}
 use Rattle.protocol.specs.declared.Base.{Base}
+use Rattle.protocol.specs.Links.{announces}
 use Rattle.protocol.specs.Record.{linkAt, linkCount}
-use Rattle.protocol.specs.Record.Laws.{link-count, link-fewer}
-use Rattle.protocol.specs.Record.Announced.{length-announced}
+use Rattle.protocol.specs.Record.Laws.{link-count, link-fewer, link-room}
+use Rattle.protocol.specs.Record.Announced.{length-announced, announced-none}
 use Rattle.protocol.specs.Record.Memory.{Sized}
-use Rattle.protocol.specs.Sound.{idle}
-use Rattle.protocol.specs.Sound.Laws.{record-passed}
+use Rattle.protocol.specs.Sound.{idle, recordRefusal}
+use Rattle.protocol.specs.Sound.Laws.{record-passed, sound-parts, idle-unsent, idle-place}
 use Rattle.protocol.specs.Steps.{Done, refuses, discards, accepts, withLink, withSent, withState, withFinal}
 use Rattle.protocol.specs.Steps.{withVerify, withVector, stops, onMessage, begins, startStep, arrivalStep}
 use Rattle.protocol.specs.Steps.Cases.{holdingVector, Takes, takesAnnounce, takesVerify, takesCorrect, takesAndVotes}
@@ -44,31 +45,31 @@ use Rattle.protocol.specs.Steps.Memory.{begun-sized}
 -- both messages of a start, a Verify of another's identifier, a Verify-Final, a Correct-Final
 pub record Weights : Type 0 where
   pub start : ℕ
-  pub relay : ℕ
+  pub other : ℕ
   pub vote : ℕ
   pub final : ℕ
 
 -- they are the weights of messages at a base with that identifier in a net of n
 pub record Weighs (w : Weights) (weight : Message → ℕ) (own n : ℕ) : Type 0 where
   pub starts : weight (announce own) + weight (verify own) ≡ w .start
-  pub relays : (g : ℕ) → g ≢ own → weight (verify g) ≡ w .relay
+  pub others : (g : ℕ) → g ≢ own → weight (verify g) ≡ w .other
   pub votes : (v : List ℕ) → length v ≡ n → weight (verifyFinal v) ≡ w .vote
   pub finals : (v : List ℕ) → length v ≡ n → weight (correctFinal v) ≡ w .final
 
 -- ---- what a record tells
 unfoldable pub spentBy : Weights → ℕ → ℕ → ℕ → ℕ
 spentBy w state heard sent =
-    choose (eqb state 0) 0 (w .start) + heard * w .relay + choose (eqb sent 0) 0 (w .vote) + choose (leb 2 state) (w .final) 0
+    choose (eqb state 0) 0 (w .start) + heard * w .other + choose (eqb sent 0) 0 (w .vote) + choose (leb 2 state) (w .final) 0
 
 unfoldable pub spent : Weights → Base → ℕ
 spent w b = spentBy w (b .state) (length (announcedTo b)) (b .sent)
 
-pub spent-most : (w : Weights) (b : Base) → spent w b ≤ w .start + (b .n - 1) * w .relay + w .vote + w .final
+pub spent-most : (w : Weights) (b : Base) → spent w b ≤ w .start + (b .n - 1) * w .other + w .vote + w .final
 unfolding spent spentBy
 spent-most w b = omega (
   arith,
   none-or (eqb (b .state) 0) (w .start),
-  mul-le-mul-right (w .relay) heard,
+  mul-le-mul-right (w .other) heard,
   none-or (eqb (b .sent) 0) (w .vote),
   one-or-none (leb 2 (b .state)) (w .final),
 )
@@ -82,11 +83,27 @@ spent-most w b = omega (
     one-or-none : (t : Bool) (x : ℕ) → choose t x 0 ≤ x
     one-or-none t x = choose-ind (λ (k : ℕ). k ≤ x) t (λ _. omega arith) (λ _. omega arith)
 
+-- an idle record tells nothing
+pub idle-spent : (w : Weights) (b : Base) → recordRefusal b ≡ 0 → idle b ≡ true → spent w b ≡ 0
+unfolding spent
+idle-spent w b e off =
+    go nobody (eqb-true (b .state) 0 (unfold idle in off)) (idle-unsent b (sound-parts b (record-passed b e .sound) .idle) off)
+  where
+    nobody : announcedTo b ≡ []
+    nobody = announced-none (linkCount b) (linkAt b) (λ i l. silent i l)
+      where
+        silent : (i : ℕ) → i < linkCount b → announces (linkAt b i) ≡ false
+        silent i l = unfold announces in ap not (eq-eqb (linkAt b i .announce) 0
+            (idle-place b (sound-parts b (record-passed b e .sound) .idle) off i (omega (arith, link-room b)) .announce))
+
+    go : announcedTo b ≡ [] → b .state ≡ 0 → b .sent ≡ 0 → spentBy w (b .state) (length (announcedTo b)) (b .sent) ≡ 0
+    go p q r = unfold spentBy choose in rw (p, q, r) (omega (arith, zero-mul (w .other)))
+
 -- ---- what adds to it
 module _ (w : Weights) where
-  spent-heard : (state heard sent : ℕ) → spentBy w state (suc heard) sent ≡ spentBy w state heard sent + w .relay
+  spent-heard : (state heard sent : ℕ) → spentBy w state (suc heard) sent ≡ spentBy w state heard sent + w .other
   unfolding spentBy
-  spent-heard state heard sent = omega (arith, suc-mul heard (w .relay))
+  spent-heard state heard sent = omega (arith, suc-mul heard (w .other))
 
   spent-vote : (state heard : ℕ) → spentBy w state heard 1 ≡ spentBy w state heard 0 + w .vote
   unfolding spentBy choose
@@ -144,7 +161,7 @@ module _ (w : Weights) (weight : Message → ℕ) where
     takes-paid (takesAnnounce g p q r) valid = omega (
       arith,
       spent-heard w (b .state) (length (announcedTo b)) (b .sent),
-      W .relays g (uncertified-other b g q),
+      W .others g (uncertified-other b g q),
       ap (λ (k : ℕ). spentBy w (b .state) k (b .sent))
           (inserted-length (announced-added b i g below fits (nonzero-one g (valid .above-zero)) p)),
     )
@@ -216,7 +233,7 @@ module _ (w : Weights) (weight : Message → ℕ) where
   call-paid b (arrivalCall link burst room) W S bytes = arrival-cases (Paid b) b link burst room (λ r _. refuses-paid b r)
       (λ e. arrival-step-paid b _ _ W S (arrival-heard b link burst room bytes e))
 
-  life-weight : (b : Base) (calls : List Call) → Weighs w weight (b .own) (b .n) → Sized b → AllBytes calls
+  pub life-weight : (b : Base) (calls : List Call) → Weighs w weight (b .own) (b .n) → Sized b → AllBytes calls
       → spent w b + sumOver (life b calls) weight ≡ spent w (afterCalls b calls)
   unfolding life afterCalls sumOver
   life-weight b [] W S bytes = omega arith
@@ -227,17 +244,17 @@ module _ (w : Weights) (weight : Message → ℕ) where
 
   -- all that a base broadcasts weighs at most one start, a Verify of each other identifier, one vote and one end
   pub life-weight-most : (b : Base) (calls : List Call) → Weighs w weight (b .own) (b .n) → Sized b → AllBytes calls
-      → sumOver (life b calls) weight ≤ w .start + (b .n - 1) * w .relay + w .vote + w .final
+      → sumOver (life b calls) weight ≤ w .start + (b .n - 1) * w .other + w .vote + w .final
   life-weight-most b calls W S bytes =
-      let same = ap (λ (n : ℕ). (n - 1) * w .relay) (after-setting b calls S bytes .n) in
+      let same = ap (λ (n : ℕ). (n - 1) * w .other) (after-setting b calls S bytes .n) in
       omega (arith, life-weight b calls W S bytes, same, spent-most w (afterCalls b calls))
 
 -- ---- the number of messages: each weighs one
 abbrev pub oneEach : Weights
-oneEach = record { start = 2; relay = 1; vote = 1; final = 1 }
+oneEach = record { start = 2; other = 1; vote = 1; final = 1 }
 
 pub one-each-weigh : (own n : ℕ) → Weighs oneEach (λ _. 1) own n
-one-each-weigh own n = record { starts = refl; relays = λ g _. refl; votes = λ v _. refl; finals = λ v _. refl }
+one-each-weigh own n = record { starts = refl; others = λ g _. refl; votes = λ v _. refl; finals = λ v _. refl }
 
 pub life-most : (b : Base) (calls : List Call) → Sized b → AllBytes calls → NetSize (b .n) → length (life b calls) ≤ b .n + 3
 life-most b calls S bytes N = omega (

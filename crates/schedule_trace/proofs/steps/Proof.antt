@@ -6,13 +6,10 @@ use Rattle.schedule_trace.proofs.steps.Statement.{statement}
 use Rattle.schedule_trace.proofs.steps.Tie as tie
 
 abbrev Inv-loop : tie.InvT-loop
-Inv-loop s traced₀ k₀ traced k = k ≤ length s
+Inv-loop s net₀ k₀ net k = k ≤ length s
 
 abbrev μ-loop : tie.MeasureT-loop
-μ-loop s traced₀ k₀ traced k = length s - k
-
-no-totals-requires : tie.Need-no-totals-requires Inv-loop μ-loop
-no-totals-requires c κs = search needs
+μ-loop s net₀ k₀ net k = length s - k
 
 loop-holds : tie.Need-loop-holds Inv-loop μ-loop
 loop-holds c = search needs
@@ -44,7 +41,6 @@ steps-spec =
     (tie.spec
     Inv-loop
     μ-loop
-    no-totals-requires
     loop-holds
     add-k
     returns

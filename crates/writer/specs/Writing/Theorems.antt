@@ -12,6 +12,7 @@ use Rattle.frame.specs.Message.{kindOf, idsOf, expected, lengthOf, Valid}
 use Rattle.frame.specs.Message.Laws.{known-is}
 use Rattle.frame.specs.Encoding.{frameOf, encode}
 use Rattle.frame.specs.Encoding.Laws.{length-frame, over-past}
+use Rattle.frame.specs.Slots.{sizeOf}
 use Rattle.frame.specs.Reading.{message}
 use Rattle.frame.specs.Reading.Laws.{list-passed}
 use Rattle.frame.specs.Reading.Theorems.{parts-message}
@@ -37,6 +38,10 @@ module _ (n kind : ℕ) (ids : List ℕ) (room : ℕ) (words : Below (2 ^ 32) id
   pub written-encodes : frameOf kind ids ≡ encode (message kind ids)
   unfolding encode
   written-encodes = sym (ap₂ frameOf (parts .0) (parts .1))
+
+  -- the size that is answered is that of the frame
+  pub written-size : sizeOf (lengthOf kind n) ≡ sizeOf (length (frameOf kind ids))
+  written-size = ap sizeOf (write-passed n kind ids room none .size ∙ sym (length-frame kind ids))
 
 -- refused or not, the output past the length of the kind's frame is as it was
 pub write-past : (n kind : ℕ) (ids output : List ℕ) → drop (lengthOf kind n) (writeOutput n kind ids output) ≡ drop (lengthOf kind n) output

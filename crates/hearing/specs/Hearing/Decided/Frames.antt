@@ -25,7 +25,7 @@ use Rattle.frame_room.specs.Room.Laws.{fits}
 use Rattle.protocol.specs.declared.Base.{Base}
 use Rattle.protocol.specs.declared.Outcome.the-variants.{Accepted}
 use Rattle.protocol.specs.Airtime.{ownSlots, relayedSlots}
-use Rattle.protocol.specs.Airtime.Laws.{sums-whole, none-own, final-own, slots-append}
+use Rattle.protocol.specs.Airtime.Laws.{sums-whole, nothing-not-relayed, final-not-relayed, slots-append}
 use Rattle.protocol.specs.Steps.{Done, accepted, accepts, encodeAll, lengths, outcomeWith, outputOf}
 use Rattle.change.specs.declared.Change.{Change}
 use Rattle.change.specs.Change.{changedBase, Does}
@@ -101,7 +101,7 @@ few-last-said n stops list = choose-ind (λ (l : List Message). length l ≤ 1) 
 last-own : (own n : ℕ) (stops : Bool) (list : List ℕ) → relayedSlots own (lastSaid n stops list) ≡ 0
 unfolding lastSaid
 last-own own n stops list =
-    choose-ind (λ (l : List Message). relayedSlots own l ≡ 0) stops (λ _. final-own own (take n list)) (λ _. none-own own)
+    choose-ind (λ (l : List Message). relayedSlots own l ≡ 0) stops (λ _. final-not-relayed own (take n list)) (λ _. nothing-not-relayed own)
 
 -- ---- the frames
 -- a frame that there is room for

@@ -21,7 +21,7 @@ use Rattle.frame.specs.Reading.{message}
 use Rattle.protocol.specs.declared.Link.{Link}
 use Rattle.protocol.specs.declared.Base.{Base}
 use Rattle.protocol.specs.Airtime.{ownSlots}
-use Rattle.protocol.specs.Airtime.Laws.{none-relayed, verify-relayed, vote-relayed}
+use Rattle.protocol.specs.Airtime.Laws.{nothing-not-own, verify-not-own, vote-not-own}
 use Rattle.protocol.specs.Links.{announces, holdsVerify, full}
 use Rattle.protocol.specs.Record.{linkAt, linkCount, links, listTally, correctCount, certified}
 use Rattle.protocol.specs.Steps.{Done, accepts, discards, withLink, withSent, withState, withFinal, withAnnounce, withVerify, withVector}
@@ -47,7 +47,7 @@ pub record DecidedAs (c : Base) (d : Decision) (ids : List ℕ) (k : Done) : Typ
   pub done : k ≡ accepts (decidedBase c d) (saidBy (c .n) d ids)
   pub list : d .stops ≡ true → length (take (c .n) (d .«final_list»)) ≡ c .n
   pub first : FirstKind (d .first)
-  pub relays : ownSlots (c .own) (firstSaid (c .n) (d .first) ids) ≡ 0
+  pub not-own : ownSlots (c .own) (firstSaid (c .n) (d .first) ids) ≡ 0
 
 runs-decides : (c : Base) (first sent : ℕ) (ids : List ℕ) (said : List Message) → FirstKind first
     → firstSaid (c .n) first ids ≡ said → ownSlots (c .own) said ≡ 0
@@ -64,7 +64,7 @@ runs-decides : (c : Base) (first sent : ℕ) (ids : List ℕ) (said : List Messa
 unfolding decidedBase saidBy lastSaid runsOn choose
 runs-decides c first sent ids said F e o = record {
   first = F;
-  relays = ap (ownSlots (c .own)) e ∙ o;
+  not-own = ap (ownSlots (c .own)) e ∙ o;
   done = ap (accepts _) (sym e ∙ sym (append-nil _));
   list = λ z. absurd (let q : _≡_ {A = Bool} false true = z in let w : _≡_ {A = ℕ} 0 1 = cc in omega arith);
 }
@@ -78,7 +78,7 @@ stops-decides : (c : Base) (first sent state : ℕ) (ids list v : List ℕ) (sai
 unfolding decidedBase saidBy lastSaid stopsWith choose stops withState withFinal
 stops-decides c first sent state ids list v said F e o p q l = record {
   first = F;
-  relays = ap (ownSlots (c .own)) e ∙ o;
+  not-own = ap (ownSlots (c .own)) e ∙ o;
   done = λ j. accepts
       (record { n = c .n; t = c .t; state = state; sent = sent; own = c .own; «final_list» = sym p j; links = c .links })
       (sym e j ++ (correctFinal (sym q j) ∷ []));
@@ -176,7 +176,7 @@ module _ (b : Base) (i : ℕ) (ids : List ℕ) where
         step = rw (e, first-of-one ids) refl;
         decides = λ kept. subst (λ (d : Decision). DecidedAs c d ids (primeCheck c (verify (getD ids 0 0) ∷ [])))
             (sym (kind-one _ _ _ _ _ e)) (prime-decides c 2 ids (verify (getD ids 0 0) ∷ []) verify-first (said-verify (b .n) ids)
-            (verify-relayed (b .own) (getD ids 0 0)
+            (verify-not-own (b .own) (getD ids 0 0)
             (uncertified-other b (getD ids 0 0) (or-false _ _ (or-false (announces (linkAt b i)) _ kept .1) .0))));
       }
 
@@ -191,7 +191,7 @@ module _ (b : Base) (i : ℕ) (ids : List ℕ) where
         accepted = kind-two _ _ _ _ _ e;
         step = rw (e, first-of-one ids) refl;
         decides = λ _. subst (λ (d : Decision). DecidedAs c d ids (primeCheck c [])) (sym (kind-two _ _ _ _ _ e))
-            (prime-decides c 0 ids [] (inl refl) (said-none (b .n) ids) (none-relayed (b .own)));
+            (prime-decides c 0 ids [] (inl refl) (said-none (b .n) ids) (nothing-not-own (b .own)));
       }
 
   module _ (h : HoldsFirst (b .n) ids) (l : length (take (b .n) ids) ≡ b .n) where
@@ -213,8 +213,8 @@ module _ (b : Base) (i : ℕ) (ids : List ℕ) where
             (let d = choose t (accepts (withSent c) (verifyFinal (take (c .n) ids) ∷ [])) (accepts c []) in
             secondaryCheck (d .base) (take (c .n) ids) (d .says))
         go true = secondary-decides c 4 ids (verifyFinal (take (c .n) ids) ∷ []) vote-first (said-vote (c .n) ids)
-            (vote-relayed (c .own) (take (c .n) ids)) 1 h′ l′
-        go false = secondary-decides c 0 ids [] (inl refl) (said-none (c .n) ids) (none-relayed (c .own)) (c .sent) h′ l′
+            (vote-not-own (c .own) (take (c .n) ids)) 1 h′ l′
+        go false = secondary-decides c 0 ids [] (inl refl) (said-none (c .n) ids) (nothing-not-own (c .own)) (c .sent) h′ l′
 
     split-correct : {kind : ℕ} → kind ≡ 3 → Split b i kind ids
     unfolding acceptedOn onVectorLink decisionOf messageIn message expected holdsOne or choose onMessage onCorrectFinal withLink
@@ -244,7 +244,7 @@ module _ (b : Base) (i : ℕ) (ids : List ℕ) where
           step = rw e (ap (λ (x : Link). choose (not (eqb (linkAt b i .held) 0)) (discards b) (next (withLink b i x)))
               (vector-link (b .n) 4 (linkAt b i) ids h));
           decides = λ _. subst (λ (d : Decision). DecidedAs c d ids (next c)) (sym (kind-four _ _ _ _ _ e))
-              (secondary-decides c 0 ids [] (inl refl) (said-none (b .n) ids) (none-relayed (b .own)) (c .sent) h l);
+              (secondary-decides c 0 ids [] (inl refl) (said-none (b .n) ids) (nothing-not-own (b .own)) (c .sent) h l);
         }
 
 -- kinds 3 and 4: the array holds n identifiers

@@ -53,7 +53,7 @@ module _ (b : Base) (i kind : ℕ) (ids output : List ℕ)
       let K = subst (λ (d : Decision). DecidedAs x d ids m) (sym g)
       (accepted-by-link (begun b) i kind ids z (N .most) M a e t) in
       does-as (K .done)
-      (said-does b x D ids output (K .first) (omega (arith, N .least)) (N .most) z (K .list) (K .relays) (said-room _ _ _ (K .done) h)
+      (said-does b x D ids output (K .first) (omega (arith, N .least)) (N .most) z (K .list) (K .not-own) (said-room _ _ _ (K .done) h)
       r after (ap (λ (c : Change). c .outcome) p ∙ choose-yes _ _ t) (q ∙ ap (λ (s : List ℕ). over s output) (choose-yes _ _ t))
       (ap (changedBase b) p))
 

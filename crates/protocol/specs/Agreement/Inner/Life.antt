@@ -18,28 +18,12 @@ use Rattle.protocol.specs.Sound.{idle, recordRefusal}
 use Rattle.protocol.specs.Sound.Laws.{record-passed, sound-parts, idle-unsent, idle-place}
 use Rattle.protocol.specs.Steps.{Done, startStep, arrivalStep}
 use Rattle.protocol.specs.Steps.Certified.{announcedTo}
-use Rattle.protocol.specs.Steps.Life.{oneEach, one-each-weigh, spentBy, spent, spent-most, Paid, start-step-paid, arrival-step-paid}
+use Rattle.protocol.specs.Steps.Life.{oneEach, one-each-weigh, spent, spent-most, idle-spent, Paid, start-step-paid, arrival-step-paid}
 use Rattle.protocol.specs.Agreement.Invariant.{Premises}
 use Rattle.protocol.specs.Agreement.Observers.{placeOf}
 use Rattle.protocol.specs.Agreement.Inner.{Group, groupAfter, ReachedGroup, fresh, groupStarts, groupArrives}
 use Rattle.protocol.specs.Agreement.Inner.Moves.{called-each, member-heard}
 use Rattle.protocol.specs.Agreement.Inner.Theorem.{GroupInvariant, group-invariant}
-
--- an idle record has spent nothing
-idle-spent : (b : Base) → recordRefusal b ≡ 0 → idle b ≡ true → spent oneEach b ≡ 0
-unfolding spent
-idle-spent b e off =
-    go (nobody) (eqb-true (b .state) 0 (unfold idle in off)) (idle-unsent b (sound-parts b (record-passed b e .sound) .idle) off)
-  where
-    nobody : announcedTo b ≡ []
-    nobody = announced-none (linkCount b) (linkAt b) (λ i l. silent i l)
-      where
-        silent : (i : ℕ) → i < linkCount b → announces (linkAt b i) ≡ false
-        silent i l = unfold announces in ap not (eq-eqb (linkAt b i .announce) 0
-            (idle-place b (sound-parts b (record-passed b e .sound) .idle) off i (omega (arith, link-room b)) .announce))
-
-    go : announcedTo b ≡ [] → b .state ≡ 0 → b .sent ≡ 0 → spentBy oneEach (b .state) (length (announcedTo b)) (b .sent) ≡ 0
-    go p q r = unfold spentBy choose in rw (p, q, r)
 
 -- a step's messages are as many as its record has more
 step-count : (b : Base) (d : Done) → Paid oneEach (λ _. 1) b d → spent oneEach b + length (d .says) ≡ spent oneEach (d .base)
@@ -47,7 +31,7 @@ step-count b d p = omega (arith, p, sum-over-ones (d .says))
 
 module _ (n t : ℕ) (faulty : ℕ → ℕ → ℕ) (id : ℕ → ℕ) (truth : List ℕ) (P : Premises n t faulty id truth) where
   log-spent : {N : Group} → ReachedGroup n t faulty id N → (x : ℕ) → x < n → spent oneEach (N .base x) ≡ length (N .log x)
-  log-spent (fresh {N = N} F) = λ x l. idle-spent (N .base x) (F .member x l .refusal) (F .idle x l) ∙ ap length (sym (F .silent x l))
+  log-spent (fresh {N = N} F) = λ x l. idle-spent oneEach (N .base x) (F .member x l .refusal) (F .idle x l) ∙ ap length (sym (F .silent x l))
   log-spent (groupStarts {N = N} R y y-in) =
       called-each N y (startStep (N .base y)) (N .handed) (λ x b log. x < n → spent oneEach b ≡ length log)
       (λ l. omega (
