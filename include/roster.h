@@ -2,7 +2,8 @@
  * small net can have.
  *
  * docs/HOW-A-BASE-DECIDES.md lists what an integrator has to do, step by step; docs/RULES.md has the bytes of a frame and the lines of a
- * schedule; docs/FAULTY-SETS.md shows how a net is tried under each set of faulty links.
+ * schedule; docs/FAULTY-SETS.md shows how a net is tried under each set of faulty links; docs/AIRTIME.md says how much of a channel the
+ * frames take.
  *
  * Linking. A base's calls are in libroster_c.a (`rt staticlib roster_c` writes it to target/staticlib/). What a base in the field does not
  * need stands apart: roster_replay is in libreplay.a (`rt staticlib replay`), the calls on sets of faulty links, roster_faulty_count,
@@ -62,10 +63,12 @@ extern "C" {
 #endif
 
 /* Counts up where a record, an answer, what a call does or what a number means changes; a call or a number that is added leaves it.
- * roster_version() answers that of libroster_c.a: where the two differ, the program and the archive do not fit each other. */
+ * roster_version() answers that of libroster_c.a: call it first, and nothing else where the two differ. Answers then have another size, and
+ * a call would write outside of what it is lent. */
 #define ROSTER_VERSION 2
 
-/* Counts up where the record changes; it is stored beside a record. */
+/* Counts up where the record changes; it is stored beside a record. Version 1 of this header had no such number, and ROSTER_VERSION, 1, was
+ * stored in its place. The record is the same: compare what was stored with ROSTER_RECORD_VERSION, and no longer with ROSTER_VERSION. */
 #define ROSTER_RECORD_VERSION 1
 
 /* Sizes. Most follow from the most bases of a net. */
@@ -86,7 +89,7 @@ extern "C" {
 #define ROSTER_LINE_ROOM (37 + 11 * ROSTER_MOST_BASES)                  /* bytes for any line of a report */
 #define ROSTER_REPORT_ROOM ((ROSTER_MOST_BASES + 1) * ROSTER_LINE_ROOM) /* bytes to lend to roster_replay */
 
-/* Slots of airtime that a base of a net of n takes in its life at most: own, relayed, and both together. */
+/* Slots of airtime that a base of a net of n takes at most, from its new record on: own, relayed, and both together. */
 #define ROSTER_LIST_SLOTS(n) ROSTER_FRAME_SLOTS(ROSTER_FRAME_BYTES(n))
 #define ROSTER_MOST_OWN_SLOTS(n) (2 + ROSTER_LIST_SLOTS(n))
 #define ROSTER_MOST_RELAYED_SLOTS(n) ((n) - 1 + ROSTER_LIST_SLOTS(n))
@@ -171,7 +174,8 @@ enum roster_outcome { ROSTER_REFUSED, ROSTER_ACCEPTED, ROSTER_DISCARDED };
 
 /* The lengths of the frames broadcast, in the order written; zero for none. Behind them the slots of airtime that these frames take, one
  * for each ROSTER_SLOT_BYTES begun, each frame counted once though every link gets it: own are an Announce, a Verify of the own identifier
- * and a Correct-Final, relayed is every other frame. A call that is turned down has none. What a transport sends again is not counted. */
+ * and a Correct-Final, relayed is every other frame. A call that is turned down has none. What a transport sends again is not counted, nor
+ * that it may send a frame on each link by itself. */
 typedef struct roster_answer {
     uint8_t outcome; /* enum roster_outcome */
     uint8_t refusal; /* or zero */

@@ -9,8 +9,9 @@
 
 #![allow(dead_code)]
 
+/// What [`version`] has to answer: call it first, and nothing else where it answers another.
 pub const VERSION: u32 = 2;
-/// Stored beside a record.
+/// Stored beside a record. Version 1 stored [`VERSION`], 1, in its place; the record is the same, so compare what was stored with this.
 pub const RECORD_VERSION: u32 = 1;
 
 pub const FEWEST_BASES: usize = 2;
@@ -67,14 +68,19 @@ pub const fn frame_slots(bytes: usize) -> usize {
     bytes.div_ceil(SLOT_BYTES)
 }
 
-/// Slots of airtime that a base of a net of n takes in its life at most: its own.
+/// Of a frame of n identifiers.
+pub const fn list_slots(n: usize) -> usize {
+    frame_slots(frame_bytes(n))
+}
+
+/// Slots of airtime that a base of a net of n takes at most, from its new record on: its own.
 pub const fn most_own_slots(n: usize) -> usize {
-    2 + frame_slots(frame_bytes(n))
+    2 + list_slots(n)
 }
 
 /// Those that it relays.
 pub const fn most_relayed_slots(n: usize) -> usize {
-    n - 1 + frame_slots(frame_bytes(n))
+    n - 1 + list_slots(n)
 }
 
 /// Both together.
@@ -218,6 +224,7 @@ pub struct Taken {
 pub struct Put {
     pub refusal: u8,
     pub length: usize,
+    /// That the frame takes.
     pub slots: usize,
 }
 

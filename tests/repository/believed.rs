@@ -102,9 +102,10 @@ impl World {
         Ok(roots)
     }
 
-    /// The statement about a base's life, and the definitions in the contracts of the calls that answer with slots.
+    /// The statements about a base's life in slots, and the definitions in the contracts of the calls that answer with slots.
     fn airtime_roots(&self) -> Result<Vec<Place>, String> {
-        let mut roots = vec![place("protocol/specs/Airtime/Statement.antt", "Airtime")];
+        let statement = "protocol/specs/Airtime/Statement.antt";
+        let mut roots = vec![place(statement, "Airtime"), place(statement, "RecordTells")];
         for call in ["roster_start", "roster_arrive", "roster_write"] {
             roots.extend(self.contract("roster_c", call)?);
         }

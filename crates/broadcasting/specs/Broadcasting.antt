@@ -1,4 +1,4 @@
--- The frames that a call broadcasts, as bytes, by what an output has room for; and the answers with their lengths.
+-- The frames that a call broadcasts, as bytes, by what an output has room for; and the answers with their lengths and slots.
 use Prim.Native.Nat.{ℕ, _-_}
 use mathlib.Core.Bool.{Bool}
 use mathlib.Core.List.{List, []}

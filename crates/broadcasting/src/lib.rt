@@ -1,4 +1,4 @@
-// The frames that a call broadcasts, one behind another at the front of an output, and the answer with their lengths.
+// The frames that a call broadcasts, one behind another at the front of an output, and the answer with their lengths and slots.
 use frame::kind::CORRECT_FINAL;
 use frame::kind::Shape;
 use frame::kind::shape_of;

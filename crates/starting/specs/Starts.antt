@@ -1,22 +1,20 @@
 -- The start call, by its number and the base's state, and what a start answers and writes.
-use Prim.Native.Nat.{ℕ, _+_, _*_, _≤_}
+use Prim.Native.Nat.{ℕ, _*_, _≤_}
 use mathlib.Core.Path.{_≡_, refl, sym, ap, _∙_}
 use mathlib.Core.Logic.{_≢_}
-use mathlib.Core.List.{List, [], _∷_}
+use mathlib.Core.List.{List}
 use native.Mathlib.Omega.{arith}
 use borrow.Author.Tests.{eq-eqb, ne-eqb}
-use lib.ListN.{length, getD}
+use lib.ListN.{length}
 use Rattle.limits.specs.Limits.{frameBytes, outputRoom}
 use Rattle.lists.specs.Choice.{first}
 use Rattle.lists.specs.Choice.Laws.{choose-yes, choose-no, first-passed}
-use Rattle.lists.specs.Lists.{sumOver}
 use Rattle.frame.specs.Encoding.{over}
 use Rattle.protocol.specs.declared.Base.{Base}
 use Rattle.protocol.specs.declared.Outcome.the-variants.{Accepted}
 use Rattle.protocol.specs.Sound.{idle, recordRefusal}
 use Rattle.protocol.specs.Steps.{refuses, discards, accepts, withState, begins, startStep, outputRefusal, start}
-use Rattle.protocol.specs.Steps.{lengths, outcomeWith, outcomeOf, outputOf}
-use Rattle.protocol.specs.Airtime.{ownSlots, relayedSlots}
+use Rattle.protocol.specs.Steps.{outcomeWith, outcomeOf, outputOf}
 use Rattle.protocol.specs.Airtime.Laws.{start-alone}
 use Rattle.protocol.specs.Steps.Refusals.{unless-passed, unless-refused, output-passed}
 use Rattle.change.specs.declared.Change.{Change}

@@ -11,12 +11,10 @@ use lib.ListN.{length, take, getD, length-take}
 use Rattle.limits.specs.Limits.{mostBases, frameBytes, outputRoom}
 use Rattle.limits.specs.Refusals.{NetSize}
 use Rattle.lists.specs.Choice.Laws.{choose-ind, choose-no}
-use Rattle.lists.specs.Lists.{sumOver}
-use Rattle.frame.specs.Message.{Message, announce, verify, kindOf, idsOf, expected}
+use Rattle.frame.specs.Message.{Message, announce, verify, idsOf, expected}
 use Rattle.frame.specs.Message.Laws.{expected-range}
 use Rattle.frame.specs.Reading.{message}
-use Rattle.frame.specs.Encoding.{encode, over}
-use Rattle.frame.specs.Encoding.Laws.{length-frame}
+use Rattle.frame.specs.Encoding.{over}
 use Rattle.protocol.specs.declared.Base.{Base}
 use Rattle.protocol.specs.declared.Outcome.{Outcome}
 use Rattle.protocol.specs.declared.Outcome.the-variants.{Accepted, Discarded}

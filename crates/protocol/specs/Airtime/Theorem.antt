@@ -19,7 +19,8 @@ use Rattle.protocol.specs.declared.Outcome.the-variants.{Discarded}
 use Rattle.protocol.specs.Record.Memory.{Sized}
 use Rattle.protocol.specs.Sound.{idle, stopped, recordRefusal}
 use Rattle.protocol.specs.Sound.Laws.{record-passed}
-use Rattle.protocol.specs.Steps.{discarded, Done, refuses, discards, accepts, withState, stops, begins, arrivalStep, outcomeWith, outcomeOf}
+use Rattle.protocol.specs.Steps.{discarded, Done, refuses, discards, accepts, withState, stops, begins, arrivalStep}
+use Rattle.protocol.specs.Steps.{outcomeWith, outcomeOf}
 use Rattle.protocol.specs.Steps.Answers.{idle-discarded}
 use Rattle.protocol.specs.Steps.Calls.{Call, startCall, arrivalCall, called, AllBytes, afterCalls, life, call-held}
 use Rattle.protocol.specs.Steps.Calls.{after-setting, refused-for-ever}

@@ -1,5 +1,4 @@
 -- `slots_taken::own_taken` meets its contract, by the state.
-use mathlib.Core.Path.{_∙_}
 use native.Mathlib.Omega.{arith}
 use Rattle.slots_taken.specs.Taken.Laws.{own-idle, own-running, own-stopped}
 use borrow.Author.Needs.{needs}

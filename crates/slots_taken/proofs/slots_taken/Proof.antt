@@ -2,7 +2,6 @@
 use Prim.Native.Nat.{ℕ}
 use mathlib.Core.Path.{ap₂, _∙_}
 use native.Mathlib.Omega.{arith}
-use Rattle.slots_taken.specs.declared.Slots.{Slots}
 use Rattle.slots_taken.specs.Taken.{slotsTaken}
 use Rattle.slots_taken.specs.Taken.Laws.{own-parts, some-certified, relayed-parts}
 use borrow.Author.Needs.{needs}

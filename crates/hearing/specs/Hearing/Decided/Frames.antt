@@ -101,7 +101,8 @@ few-last-said n stops list = choose-ind (λ (l : List Message). length l ≤ 1) 
 last-own : (own n : ℕ) (stops : Bool) (list : List ℕ) → relayedSlots own (lastSaid n stops list) ≡ 0
 unfolding lastSaid
 last-own own n stops list =
-    choose-ind (λ (l : List Message). relayedSlots own l ≡ 0) stops (λ _. final-not-relayed own (take n list)) (λ _. nothing-not-relayed own)
+    choose-ind (λ (l : List Message). relayedSlots own l ≡ 0) stops (λ _. final-not-relayed own (take n list))
+    (λ _. nothing-not-relayed own)
 
 -- ---- the frames
 -- a frame that there is room for

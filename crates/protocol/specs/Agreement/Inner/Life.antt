@@ -2,23 +2,15 @@
 -- a Verify-Final and a Correct-Final at most. So a log holds at most n + 3 messages.
 use Prim.Native.Nat.{ℕ, _+_, _≤_, _<_}
 use mathlib.Core.Path.{_≡_, sym, ap, _∙_}
-use mathlib.Core.Bool.{true, false, not}
-use mathlib.Core.List.{List, []}
+use mathlib.Core.List.{List}
 use native.Mathlib.Omega.{arith}
-use borrow.Author.Tests.{eqb-true, eq-eqb}
 use lib.ListN.{length, length-append}
-use Rattle.lists.specs.Choice.{choose}
 use Rattle.lists.specs.Lists.Sums.{sum-over-ones}
 use Rattle.protocol.specs.declared.Base.{Base}
-use Rattle.protocol.specs.Links.{announces}
-use Rattle.protocol.specs.Record.{linkAt, linkCount}
-use Rattle.protocol.specs.Record.Laws.{link-room}
-use Rattle.protocol.specs.Record.Announced.{announced-none}
-use Rattle.protocol.specs.Sound.{idle, recordRefusal}
-use Rattle.protocol.specs.Sound.Laws.{record-passed, sound-parts, idle-unsent, idle-place}
+use Rattle.protocol.specs.Sound.{idle}
 use Rattle.protocol.specs.Steps.{Done, startStep, arrivalStep}
-use Rattle.protocol.specs.Steps.Certified.{announcedTo}
-use Rattle.protocol.specs.Steps.Life.{oneEach, one-each-weigh, spent, spent-most, idle-spent, Paid, start-step-paid, arrival-step-paid}
+use Rattle.protocol.specs.Steps.Life.{oneEach, one-each-weigh, spent, spent-most, idle-spent}
+use Rattle.protocol.specs.Steps.Life.{Paid, start-step-paid, arrival-step-paid}
 use Rattle.protocol.specs.Agreement.Invariant.{Premises}
 use Rattle.protocol.specs.Agreement.Observers.{placeOf}
 use Rattle.protocol.specs.Agreement.Inner.{Group, groupAfter, ReachedGroup, fresh, groupStarts, groupArrives}
@@ -31,7 +23,8 @@ step-count b d p = omega (arith, p, sum-over-ones (d .says))
 
 module _ (n t : ℕ) (faulty : ℕ → ℕ → ℕ) (id : ℕ → ℕ) (truth : List ℕ) (P : Premises n t faulty id truth) where
   log-spent : {N : Group} → ReachedGroup n t faulty id N → (x : ℕ) → x < n → spent oneEach (N .base x) ≡ length (N .log x)
-  log-spent (fresh {N = N} F) = λ x l. idle-spent oneEach (N .base x) (F .member x l .refusal) (F .idle x l) ∙ ap length (sym (F .silent x l))
+  log-spent (fresh {N = N} F) = λ x l.
+      idle-spent oneEach (N .base x) (F .member x l .refusal) (F .idle x l) ∙ ap length (sym (F .silent x l))
   log-spent (groupStarts {N = N} R y y-in) =
       called-each N y (startStep (N .base y)) (N .handed) (λ x b log. x < n → spent oneEach b ≡ length log)
       (λ l. omega (
