@@ -15,7 +15,7 @@ pub struct Slots {
     pub relayed: usize,
 }
 
-// Of a list of so many identifiers.
+// Of a list of so many identifiers: n is a byte, so 255 of them at most.
 fn list_slots(n: u8) -> usize
     ensures { λ r. ⌜ (r ≡ listSlots n) × (r ≤ 128) ⌝ }
 {
