@@ -1,5 +1,7 @@
 // The sets of at most t links of a small net: how many there are, and the set of a number. No list of sets is built: the sets are counted
 // by a formula, and one is found on one walk over the net's pairs.
+#![tactic(auto)]
+
 mod count;
 mod search;
 

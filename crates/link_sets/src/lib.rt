@@ -2,6 +2,8 @@
 // each set is there once.
 
 // The lower number first, the higher second.
+#![tactic(auto)]
+
 #[repr(C)]
 #[derive(Drop)]
 pub struct LinkPair {

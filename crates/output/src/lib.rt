@@ -1,4 +1,6 @@
 // Standard output, written in pieces as they come.
+#![tactic(auto)]
+
 use libc::STDOUT_FILENO;
 use parts::{between, part, plus, prints};
 

@@ -1,4 +1,6 @@
 // Parts of slices and sums of places, for any numbers; which bytes print.
+#![tactic(auto)]
+
 ghost use Rattle.std.specs.Prelude.{◌≡◌};
 ghost use Rattle.parts.specs.Parts.{part_of, line_length, place_behind, printing};
 
