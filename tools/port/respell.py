@@ -20,6 +20,13 @@ DECLARED = re.compile(
 USE = re.compile(r"use ([A-Za-z][\w.'-]*)\.\{([^}]*)\}")
 OLD = re.compile(r"[a-z0-9][A-Z]|-")
 TABLE = "tools/port/names.tsv"
+# Lemmas in snake case already, and the crates where a definition's new name stands beside them.
+MAKES_ROOM = {
+    "is_base": ("lines", "set_text"),
+    "last_frame": ("hearing",),
+    "line_after": ("stored_walk", "event_lines"),
+    "from_end": ("frame",),
+}
 
 
 def files(ends):
@@ -65,7 +72,7 @@ def tables():
         if path.endswith(".antt") and not is_walk(path):
             declared |= {m.group(1) for m in map(DECLARED.match, text.splitlines()) if m}
             used |= set(TOKEN.findall(without_comments(text)))
-    binders = {n for n in used if n[0].islower() and OLD.search(n)} - declared - library - {"false-name"}
+    binders = {n for n in used if n[0].islower() and OLD.search(n)} - declared - library - {"false-name", "not-nil"}  # of the library
     old = {n for n in declared if n[0].islower() and OLD.search(n)} - library
     by_new = collections.defaultdict(set)
     for name in old | {n for n in declared if n[0].islower() and not OLD.search(n)}:
@@ -76,7 +83,7 @@ def tables():
         camel = [n for n in names if re.search("[A-Z]", n)]
         if len(names) > 1 and lemmas:
             turn[lemmas[0]] = new + "_lem"
-        elif len(names) > 1 and camel:
+        elif len(names) > 1 and camel and new in MAKES_ROOM:
             first[new] = new + "_lem"
     turn |= {n: "held_field" for n in old if n == "field-of"}  # the library's field_of stands beside it
     return turn, first
@@ -86,7 +93,7 @@ def replaced(text, names, walk, free):
     def one(m):
         before = text[m.start() - 1 : m.start()]
         name = m.group(0)
-        if walk and before == "." or free and (before == "." or text[m.end() : m.end() + 1] == "."):
+        if walk and before == "." or free and (before in (".", ":") or text[m.end() : m.end() + 1] == "."):
             return name
         return names.get(name, name)
 
@@ -97,7 +104,8 @@ def crates():
     turn, first = tables()
     for path in files(".antt"):
         text = read(path)
-        new = replaced(text, first, True, True)
+        here = {o: n for o, n in first.items() if path.split(os.sep)[1] in MAKES_ROOM[o]}
+        new = replaced(text, here, True, True)
         walk = is_walk(path)
         local = {m.group(1) for m in map(DECLARED.match, text.splitlines()) if m} if walk else set()
         new = replaced(new, {o: n for o, n in turn.items() if o not in local}, walk, False)

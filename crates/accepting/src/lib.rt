@@ -1,4 +1,7 @@
 // What a message does to the link on which it arrives: it is accepted, and the link holds it, or it is discarded.
+
+#![tactic(auto)]
+
 ghost use Rattle.std.specs.Prelude.{◌≡◌};
 ghost use Rattle.accepting.specs.Accepting.{on_announce_link, on_verify_link, on_vector_link, accepted_on};
 
@@ -9,7 +12,7 @@ use limits::{LIST_ROOM, MOST_BASES};
 use protocol::Link;
 
 // Whether the message is accepted, and the link then; as it was where the message is discarded.
-#[derive(Drop)]
+#[derive(Clone, Copy)]
 pub struct Accepted {
     pub accepted: bool,
     pub link: Link,

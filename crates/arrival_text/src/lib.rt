@@ -1,5 +1,8 @@
 // A burst that arrives, told on standard output: what was heard, on which link, and why it is refused or discarded. What it tells is read
 // off the base as it was before.
+
+#![tactic(auto)]
+
 mod reason;
 mod trailer;
 
@@ -13,7 +16,7 @@ use protocol::{Base, Link};
 use readings::read_numbers;
 
 // On which link a burst arrives, from which base or as if from it.
-#[derive(Drop)]
+#[derive(Clone, Copy)]
 pub struct Arrival {
     pub from: u8,
     pub link: usize,

@@ -1,4 +1,7 @@
 // A burst arrives at a base: it is read, and what was read is heard.
+
+#![tactic(auto)]
+
 ghost use Rattle.std.specs.Prelude.{length};
 ghost use Rattle.protocol.specs.Steps.{arrival};
 ghost use Rattle.change.specs.Change.{Does};

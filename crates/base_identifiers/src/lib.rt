@@ -1,4 +1,7 @@
 // The identifiers of the bases, as a schedule's header names them: that of base b stands at b - 1, zero for none yet.
+
+#![tactic(auto)]
+
 ghost use Rattle.std.specs.Prelude.{◌≡◌};
 ghost use Rattle.limits.specs.Limits.{most_bases};
 ghost use Rattle.schedule.specs.Header.{owned, id_refusal};

@@ -1,4 +1,7 @@
 // The line of a base in a report. Where there is no room for any line, nothing is written and the place stays.
+
+#![tactic(auto)]
+
 ghost use Rattle.std.specs.Prelude.{◌≡◌, ◌+◌, ◌≤◌};
 ghost use Rattle.print.specs.Put.{room_end, room_output};
 ghost use Rattle.schedule.specs.Report.{base_line, line_room};

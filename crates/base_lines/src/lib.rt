@@ -1,4 +1,7 @@
 // The lines of all bases of a net. Where there is no room for so many lines, nothing is written.
+
+#![tactic(auto)]
+
 ghost use Rattle.std.specs.Prelude.{◌≡◌, ◌*◌, ◌≤◌};
 ghost use Rattle.limits.specs.Limits.{most_bases};
 ghost use Rattle.print.specs.Put.{room_end, room_output};

@@ -1,4 +1,7 @@
 // The frames that a call broadcasts, one behind another at the front of an output, and the answer with their lengths and slots.
+
+#![tactic(auto)]
+
 ghost use Rattle.std.specs.Prelude.{◌≡◌, ◌++◌, length};
 ghost use Rattle.frame.specs.Slots.{size_of};
 ghost use Rattle.frame.specs.Encoding.{over};

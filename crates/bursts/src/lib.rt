@@ -1,4 +1,7 @@
 // Whether a burst is a frame of the net: its length, its trailer, its identifiers.
+
+#![tactic(auto)]
+
 ghost use Rattle.std.specs.Prelude.{◌≡◌, ◌≤◌, length};
 ghost use Rattle.limits.specs.Limits.{most_bases, frame_bytes, shortest_burst};
 ghost use Rattle.frame.specs.Reading.{

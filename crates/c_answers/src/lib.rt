@@ -1,4 +1,7 @@
 // What the calls answer, as numbers: a function that C calls returns no enum.
+
+#![tactic(auto)]
+
 ghost use Rattle.std.specs.Prelude.{◌≡◌};
 ghost use Rattle.c_answers.specs.Numbers.{in_numbers, outcome_numbers, leader_numbers, written_numbers};
 
@@ -20,7 +23,7 @@ pub const NOT_STOPPED: u8 = 2;
 
 // Of a start or an arrival.
 #[repr(C)]
-#[derive(Drop)]
+#[derive(Clone, Copy)]
 pub struct CallAnswer {
     // REFUSED, ACCEPTED or DISCARDED.
     pub outcome: u8,
@@ -37,7 +40,7 @@ pub struct CallAnswer {
 
 // Of the leader call.
 #[repr(C)]
-#[derive(Drop)]
+#[derive(Clone, Copy)]
 pub struct LeaderAnswer {
     // LEADER_REFUSED, LEADER_NAMED or NOT_STOPPED.
     pub outcome: u8,
@@ -47,7 +50,7 @@ pub struct LeaderAnswer {
 
 // Of writing a frame.
 #[repr(C)]
-#[derive(Drop)]
+#[derive(Clone, Copy)]
 pub struct WriteAnswer {
     pub refusal: u8,
     pub length: usize,

@@ -1,4 +1,7 @@
 // Numbers 1 to 3, of what a base is given, and 5 and 6, of the link and the output that a call is given.
+
+#![tactic(auto)]
+
 ghost use Rattle.std.specs.Prelude.{◌≡◌};
 ghost use Rattle.protocol.specs.Sound.{setting_refusal};
 ghost use Rattle.protocol.specs.Steps.{link_refusal, output_refusal};

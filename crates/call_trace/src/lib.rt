@@ -1,5 +1,8 @@
 // What a start or an arrival did, told on standard output: what was heard and broadcast, the figures of the check, and whether the base
 // stops. What it tells are answers of the proved calls on the base as it was before.
+
+#![tactic(auto)]
+
 use arrival_text::{Arrival, say_heard, say_refused};
 use arriving::arrive;
 use c_answers::{ACCEPTED, CallAnswer, REFUSED, outcome_numbers};

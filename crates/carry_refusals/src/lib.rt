@@ -1,4 +1,7 @@
 // By which number a carry is turned down before it reaches its base.
+
+#![tactic(auto)]
+
 ghost use Rattle.std.specs.Prelude.{◌≡◌};
 ghost use Rattle.faulty_links.specs.Faulty.{pairs_of};
 ghost use Rattle.carry_refusals.specs.Carry.{carry_refusal};

@@ -2,7 +2,7 @@
 use crate::sentences::NONE;
 use parts::plus;
 
-#[derive(Drop)]
+#[derive(Clone, Copy)]
 pub struct Cause {
     // Its row.
     pub sentence: usize,

@@ -1,5 +1,8 @@
 // Why a line of a schedule is refused, told on standard output: the line as it stands, the number in words, and the cause where there is
 // one to name. A cause is read off the schedule's own bytes.
+
+#![tactic(auto)]
+
 mod numbers;
 
 use crate::numbers::number_cause;
@@ -15,7 +18,7 @@ use line_fields::forms::line_kind;
 use line_fields::line::line_at;
 
 // A line that is refused, and what the lines before it have told.
-#[derive(Drop)]
+#[derive(Clone, Copy)]
 pub struct RefusedLine {
     pub refusal: u8,
     pub number: usize,

@@ -1,4 +1,7 @@
 // Whether an identifier is certified, and how many are.
+
+#![tactic(auto)]
+
 ghost use Rattle.std.specs.Prelude.{◌≤◌, ◌≡◌, length};
 ghost use Rattle.limits.specs.Limits.{most_bases};
 ghost use Rattle.lists.specs.Lists.{member};

@@ -1,4 +1,7 @@
 // The certified identifiers: the own one and every accepted Announce.
+
+#![tactic(auto)]
+
 ghost use Rattle.std.specs.Prelude.{◌≡◌};
 ghost use Rattle.protocol.specs.Record.{certified};
 ghost use Rattle.certified.specs.Listed.{list_of};
@@ -9,7 +12,7 @@ use limits::MOST_BASES;
 use protocol::Base;
 
 // A list in its array.
-#[derive(Drop)]
+#[derive(Clone, Copy)]
 pub struct List {
     pub ids: [u32; MOST_BASES],
     pub count: usize,

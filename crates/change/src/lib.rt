@@ -1,4 +1,7 @@
 // What a call changes in a base's record, beside its answer. One link at most is touched.
+
+#![tactic(auto)]
+
 ghost use Rattle.std.specs.Prelude.{◌≡◌};
 ghost use Rattle.protocol.specs.Steps.{refuses, discards, with_state};
 ghost use Rattle.change.specs.Change.{changed_base, ChangeOf};
@@ -7,7 +10,7 @@ use limits::{MOST_BASES, MOST_LINKS};
 use protocol::{Base, Link, Outcome};
 
 // The answer, and what is set: state, sent, final list, and the link at one place.
-#[derive(Drop)]
+#[derive(Clone, Copy)]
 pub struct Change {
     pub outcome: Outcome,
     pub state: u8,

@@ -1,4 +1,7 @@
 // The figures of the checks, told on standard output beside what they are held against.
+
+#![tactic(auto)]
+
 use certification::certified_count;
 use correct_finals::correct_count;
 use counted_links::links_in;

@@ -1,4 +1,7 @@
 // The tests that make a base stop or vote, on its record.
+
+#![tactic(auto)]
+
 ghost use Rattle.std.specs.Prelude.{◌≡◌, take};
 ghost use Rattle.protocol.specs.Steps.{prime_holds, secondary_holds, votes};
 

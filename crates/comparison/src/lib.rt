@@ -1,5 +1,6 @@
 // Identifiers of a slice compared with each other, with zero, and with those of another slice: the first count, or those behind them.
 // Where the slice is shorter, all that it has.
+
 #![tactic(auto)]
 
 ghost use Rattle.std.specs.Prelude.{◌≡◌, take, drop};

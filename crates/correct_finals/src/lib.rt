@@ -1,4 +1,7 @@
 // The links that hold a list as Correct-Final.
+
+#![tactic(auto)]
+
 ghost use Rattle.std.specs.Prelude.{◌≤◌, ◌≡◌, take};
 ghost use Rattle.limits.specs.Limits.{most_links};
 ghost use Rattle.protocol.specs.Record.{correct_count};

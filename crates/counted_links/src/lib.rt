@@ -1,4 +1,7 @@
 // The number of a base's links. Those of which a test holds are counted one after another (specs/Counted).
+
+#![tactic(auto)]
+
 ghost use Rattle.std.specs.Prelude.{◌-◌, min, ◌≡◌};
 ghost use Rattle.limits.specs.Limits.{most_links};
 

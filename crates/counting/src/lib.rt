@@ -1,4 +1,5 @@
 // Counting in code. The sums and tests over 0 .. k - 1, with their laws, are in specs/; they know no base and no frame.
+
 #![tactic(auto)]
 
 ghost use Rattle.std.specs.Prelude.{◌≤◌, ◌≡◌};

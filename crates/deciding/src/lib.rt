@@ -1,4 +1,7 @@
 // What a base decides once it has accepted a message: the vote, the prime check, the secondary check.
+
+#![tactic(auto)]
+
 ghost use Rattle.std.specs.Prelude.{◌≡◌};
 ghost use Rattle.lists.specs.Choice.{choose};
 ghost use Rattle.deciding.specs.Deciding.{prime_decision, secondary_decision, decision_of};
@@ -12,7 +15,7 @@ use sorting::certified_sorted;
 
 // The kind of the frame that is broadcast before the check, zero for none; whether a Verify-Final was sent; whether the check stops
 // the base, and its state and final list then.
-#[derive(Drop)]
+#[derive(Clone, Copy)]
 pub struct Decision {
     pub first: u8,
     pub sent: u8,

@@ -1,4 +1,7 @@
 // The identifiers of a body, four bytes each, high byte first.
+
+#![tactic(auto)]
+
 ghost use Rattle.std.specs.Prelude.{◌≡◌, ◌+◌, ◌*◌, ◌≤◌, length, drop};
 ghost use Rattle.frame.specs.Reading.{identifier};
 ghost use Rattle.parts.specs.Parts.{part_of};

@@ -1,4 +1,7 @@
 // The lines of a schedule's events.
+
+#![tactic(auto)]
+
 ghost use Rattle.std.specs.Prelude.{◌≡◌};
 ghost use Rattle.lines.specs.Lines.{start_fields, carry_fields, forge_fields, event_line};
 

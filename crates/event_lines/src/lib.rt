@@ -1,4 +1,7 @@
 // The lines of events: the next lines of a schedule on the net of the lines before them.
+
+#![tactic(auto)]
+
 ghost use Rattle.std.specs.Prelude.{◌≡◌, ◌≤◌, ◌*◌, length, drop};
 ghost use Rattle.limits.specs.Limits.{longest_forgery};
 ghost use Rattle.hexadecimal.specs.Hex.{hex_bytes};

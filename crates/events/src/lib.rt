@@ -1,5 +1,8 @@
 // A carry and a forgery, each on the nodes that it names. What is turned down, by 16 to 18 or by the base's call, leaves the base
 // that it would reach as it was. A start is the call alone (crate `node_calls`). Crate `representation` has what these do to the net.
+
+#![tactic(auto)]
+
 ghost use Rattle.std.specs.Prelude.{◌≡◌};
 ghost use Rattle.faulty_links.specs.Faulty.{pairs_of};
 ghost use Rattle.events.specs.Events.{carried_to, forged_to};
@@ -13,7 +16,7 @@ use node_arrivals::{hear_burst, hear_frame};
 use numbering::link_to;
 
 // The base that an event reaches, as the event left it, beside 16, 17 or 18 where that turned the event down, else 0.
-#[derive(Drop)]
+#[derive(Clone, Copy)]
 pub struct Reached {
     pub refusal: u8,
     pub node: Node,

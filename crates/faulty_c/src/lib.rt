@@ -1,4 +1,7 @@
 // The calls on the sets of faulty links as C sees them (include/roster.h): answers as numbers, slices as pointer and length.
+
+#![tactic(auto)]
+
 ghost use Rattle.std.specs.Prelude.{◌≡◌};
 ghost use Rattle.print.specs.Put.{room_end, room_output};
 ghost use Rattle.faulty_sets.specs.Answers.{count_answer, set_answer};
@@ -11,7 +14,7 @@ use link_sets::LinkPair;
 
 // How many sets there are.
 #[repr(C)]
-#[derive(Drop)]
+#[derive(Clone, Copy)]
 pub struct CountAnswer {
     // The number by which the call was turned down, or zero.
     pub refusal: u8,
@@ -20,7 +23,7 @@ pub struct CountAnswer {
 
 // The set of a number: its links in order, zeros behind.
 #[repr(C)]
-#[derive(Drop)]
+#[derive(Clone, Copy)]
 pub struct SetAnswer {
     pub refusal: u8,
     pub count: u8,

@@ -1,4 +1,7 @@
 // The line of a schedule's header that names a faulty link.
+
+#![tactic(auto)]
+
 ghost use Rattle.std.specs.Prelude.{◌≡◌, ltb};
 ghost use Rattle.lists.specs.Choice.{and};
 ghost use Rattle.lines.specs.Lines.{is_base, faulty_line};

@@ -1,4 +1,7 @@
 // The links that are named faulty.
+
+#![tactic(auto)]
+
 ghost use Rattle.std.specs.Prelude.{◌≡◌, eqb};
 ghost use Rattle.lists.specs.Choice.{and};
 ghost use Rattle.protocol.specs.Net.{joins, good};
@@ -8,14 +11,14 @@ use limits::MOST_FAULTY;
 use lists::least;
 
 // A link by its two bases.
-#[derive(Drop)]
+#[derive(Clone, Copy)]
 pub struct FaultyLink {
     pub one: u8,
     pub other: u8,
 }
 
 // The faulty links, in the order in which they were named.
-#[derive(Drop)]
+#[derive(Clone, Copy)]
 pub struct Faulty {
     pub count: usize,
     pub pairs: [FaultyLink; MOST_FAULTY],

@@ -1,4 +1,7 @@
 // A link is named faulty, or turned down.
+
+#![tactic(auto)]
+
 ghost use Rattle.std.specs.Prelude.{◌≡◌};
 ghost use Rattle.schedule.specs.Header.{faulty_refusal};
 ghost use Rattle.faulty_links.specs.Faulty.{pairs_of, marked_faulty};
@@ -10,7 +13,7 @@ use limits::refusal::{FAULTY_LINKS, FORM};
 use lists::least;
 
 // The faulty links once one is named, beside 13 or 15 where that turned the link down, else 0.
-#[derive(Drop)]
+#[derive(Clone, Copy)]
 pub struct FaultyNamed {
     pub refusal: u8,
     pub faulty: Faulty,

@@ -44,7 +44,7 @@ pub(crate) fn choices_below(m: usize, k: usize) -> usize
 }
 
 // The set of a number by its size: how many pairs it has, and its number among the sets of so many.
-#[derive(Drop)]
+#[derive(Clone, Copy)]
 pub(crate) struct OfSize {
     pub size: usize,
     pub number: usize,

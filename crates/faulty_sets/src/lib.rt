@@ -1,5 +1,6 @@
 // The sets of at most t links of a small net: how many there are, and the set of a number. No list of sets is built: the sets are counted
 // by a formula, and one is found on one walk over the net's pairs.
+
 #![tactic(auto)]
 
 mod count;
@@ -21,7 +22,7 @@ use link_sets::LinkPair;
 use lists::first_of;
 
 // How many sets there are, or the number by which the call was turned down.
-#[derive(Drop)]
+#[derive(Clone, Copy)]
 pub enum FaultyCount {
     Sets(usize),
     Refused(u8),
@@ -29,7 +30,7 @@ pub enum FaultyCount {
 
 // The set of a number: how many links it has and which, in order, places that are not in use zero; or the number by which the call was
 // turned down.
-#[derive(Drop)]
+#[derive(Clone, Copy)]
 pub enum FaultySet {
     Links {
         count: u8,

@@ -12,13 +12,13 @@ use limits::SMALL_FAULTY;
 use link_sets::LinkPair;
 
 // The pairs that are chosen, in order.
-#[derive(Drop)]
+#[derive(Clone, Copy)]
 pub(crate) struct Chosen {
     pub count: usize,
     pub pairs: [LinkPair; SMALL_FAULTY],
 }
 
-#[derive(Drop)]
+#[derive(Clone, Copy)]
 pub(crate) struct Search {
     // The place of the pair that is decided next.
     pub place: usize,

@@ -1,5 +1,8 @@
 // Number 13: what is wrong with the fields of a line whose word stands in its place, by themselves and held against the net. What is
 // found is answered as a cause.
+
+#![tactic(auto)]
+
 pub mod alike;
 
 use crate::alike::first_alike;

@@ -1,4 +1,7 @@
 // What an idle base broadcasts at its first message: "An idle base starts first."
+
+#![tactic(auto)]
+
 ghost use Rattle.std.specs.Prelude.{◌≡◌, length};
 ghost use Rattle.frame.specs.Encoding.{over};
 ghost use Rattle.first_message.specs.FirstMessage.{behind_start, first_change, first_frames};

@@ -1,5 +1,8 @@
 // Number 13: what breaks a line's form before its fields are looked at: its bytes, its spaces, its word. What is found is answered as a
 // cause.
+
+#![tactic(auto)]
+
 mod encoding;
 
 use crate::encoding::encoding;

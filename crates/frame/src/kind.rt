@@ -18,7 +18,7 @@ pub const CORRECT_FINAL: u8 = 3;
 pub const VERIFY_FINAL: u8 = 4;
 
 // The count of identifiers and the frame's length, for a kind that there is.
-#[derive(Drop)]
+#[derive(Clone, Copy)]
 pub enum Shape {
     Known { count: usize, length: usize },
     Unknown,

@@ -4,7 +4,7 @@ ghost use Rattle.frame.specs.Slots.{size_of};
 
 use limits::frame_slots;
 
-#[derive(Drop)]
+#[derive(Clone, Copy)]
 pub struct FrameSize {
     pub length: usize,
     pub slots: usize,

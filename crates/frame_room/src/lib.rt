@@ -1,4 +1,7 @@
 // Whether a frame fits in the room of an output.
+
+#![tactic(auto)]
+
 ghost use Rattle.std.specs.Prelude.{◌≡◌};
 ghost use Rattle.frame_room.specs.Room.{frame_fits};
 

@@ -3,6 +3,9 @@
 //     w N KIND ROOM ID ..      a message written into an output of ROOM bytes, each 0xee before
 //     t N KIND NEXT ROOM ID .. two frames of the same identifiers
 // Any other line is printed as it is. The vectors and the file stdout were laid out by hand from document 01.
+
+#![tactic(auto)]
+
 mod line;
 mod show;
 

@@ -1,4 +1,7 @@
 // One frame at the front of an output. What stands past it in the output stays as it was.
+
+#![tactic(auto)]
+
 mod bytes;
 
 ghost use Rattle.std.specs.Prelude.{◌≡◌, ◌≤◌, ◌<◌, length};

@@ -1,4 +1,7 @@
 // The header of a schedule, read line by line into a small value, from which the net is made once.
+
+#![tactic(auto)]
+
 ghost use Rattle.std.specs.Prelude.{◌≡◌, suc, ◌+◌, ◌≤◌};
 ghost use Rattle.net.specs.Header.{made_net, begun_net};
 ghost use Rattle.schedule.specs.Walk.{net_step, id_step, id_steps, mark_step, faulty_step, repeat, header_walk};

@@ -1,4 +1,7 @@
 // The lines of a schedule's header that name its size and the bases' identifiers.
+
+#![tactic(auto)]
+
 ghost use Rattle.std.specs.Prelude.{◌≡◌};
 ghost use Rattle.lines.specs.Lines.{net_line, id_line};
 

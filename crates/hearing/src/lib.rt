@@ -1,5 +1,8 @@
 // One base's call on what a reading gave: an arrival and a forged line share it. A record goes in by value, and what is to be changed in
 // it comes back beside the answer; frames go into the output that is lent, one after another.
+
+#![tactic(auto)]
+
 ghost use Rattle.std.specs.Prelude.{length};
 ghost use Rattle.change.specs.Change.{Does};
 ghost use Rattle.hearing.specs.Hearing.{message_arrival};

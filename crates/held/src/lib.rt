@@ -1,4 +1,7 @@
 // What one link holds: an Announce, how many identifiers, a vector message of which kind.
+
+#![tactic(auto)]
+
 ghost use Rattle.std.specs.Prelude.{◌≡◌};
 ghost use Rattle.protocol.specs.Links.{announces, used, full};
 

@@ -1,4 +1,7 @@
 // Whether a link holds a Verify or a vector message: what looks into the lists that a link keeps.
+
+#![tactic(auto)]
+
 ghost use Rattle.std.specs.Prelude.{◌≡◌, take};
 ghost use Rattle.protocol.specs.Links.{holds_verify, holds_vector};
 

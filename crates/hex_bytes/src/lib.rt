@@ -1,4 +1,7 @@
 // The values of bytes in hexadecimal.
+
+#![tactic(auto)]
+
 ghost use Rattle.std.specs.Prelude.{◌≡◌, ◌+◌, ◌-◌, ◌/◌, ◌<◌, ◌≤◌, length, get_or};
 ghost use Rattle.hexadecimal.specs.Hex.{hex_digit, hex_pair};
 ghost use Rattle.hex_bytes.specs.Array.{hex_array};

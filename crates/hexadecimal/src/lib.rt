@@ -1,4 +1,7 @@
 // Bytes in hexadecimal, two lower-case digits each, up to a line feed.
+
+#![tactic(auto)]
+
 ghost use Rattle.std.specs.Prelude.{◌≡◌, ◌+◌, ◌<◌, length, get_or, drop};
 ghost use Rattle.lists.specs.Choice.{and};
 ghost use Rattle.hexadecimal.specs.Hex.{is_hex, hex_from, hex_at};
@@ -6,7 +9,7 @@ ghost use Rattle.hexadecimal.specs.Hex.{is_hex, hex_from, hex_at};
 use limits::LONGEST_FORGERY;
 
 // How many bytes stand there, and the position behind the line feed.
-#[derive(Drop)]
+#[derive(Clone, Copy)]
 pub enum Hex {
     Bytes(usize, usize),
     Bad,

@@ -1,5 +1,8 @@
 // Lists every set of faulty links of a small net: reads a schedule, of which the first line, `net n t`, matters alone, from standard input
 // and writes the lines of the sets to standard output. What goes wrong on the way is said on standard error, in one line.
+
+#![tactic(auto)]
+
 use input::arguments::no_argument;
 use input::{Input, read_input};
 use libc::STDOUT_FILENO;

@@ -1,5 +1,8 @@
 // Replays a schedule: reads it from standard input and writes the report to standard output. What goes wrong on the way is said on standard
 // error, in one line.
+
+#![tactic(auto)]
+
 use input::arguments::no_argument;
 use input::{Input, read_input};
 use libc::STDOUT_FILENO;

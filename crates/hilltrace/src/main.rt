@@ -1,5 +1,8 @@
 // Shows a schedule of standard input line by line: what each event did, what was broadcast, and the figures of the checks, and why a
 // line is refused; then the report, as hillreplay prints it. What goes wrong on the way is said on standard error, in one line.
+
+#![tactic(auto)]
+
 use input::arguments::no_argument;
 use input::{Input, read_input};
 use libc::STDOUT_FILENO;

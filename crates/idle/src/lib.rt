@@ -1,4 +1,7 @@
 // The record of a base that has not started.
+
+#![tactic(auto)]
+
 ghost use Rattle.std.specs.Prelude.{◌≡◌};
 ghost use Rattle.protocol.specs.Sound.{idle_base};
 ghost use Rattle.idle.specs.Made.{made_of};
@@ -9,7 +12,7 @@ use protocol::{Base, IDLE, Link};
 
 // A record, beside the number by which it is turned down, 0 for none; it is then that of no base.
 #[repr(C)]
-#[derive(Drop)]
+#[derive(Clone, Copy)]
 pub struct Made {
     pub refusal: u8,
     pub base: Base,

@@ -1,4 +1,7 @@
 // Standard input, read whole; and what a program is called with.
+
+#![tactic(auto)]
+
 pub mod arguments;
 
 ghost use Rattle.std.specs.Prelude.{◌≤◌, length};
@@ -7,7 +10,7 @@ ghost use Rattle.input.specs.Within.{ReadWithin};
 use libc::STDIN_FILENO;
 
 // How many bytes were read, at the front of a buffer.
-#[derive(Drop)]
+#[derive(Clone, Copy)]
 pub enum Input {
     Read(usize),
     Failed,

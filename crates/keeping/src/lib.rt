@@ -1,4 +1,7 @@
 // Frames that a call wrote join the base's broadcasts.
+
+#![tactic(auto)]
+
 ghost use Rattle.std.specs.Prelude.{◌≡◌, ◌+◌, ◌≤◌, length, take, drop};
 ghost use Rattle.limits.specs.Limits.{longest_frame};
 ghost use Rattle.node.specs.Node.{stored_frame, with_base};

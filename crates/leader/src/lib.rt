@@ -1,4 +1,7 @@
 // The leader that a base names.
+
+#![tactic(auto)]
+
 ghost use Rattle.std.specs.Prelude.{◌≡◌};
 ghost use Rattle.protocol.specs.Steps.{leader_answer};
 

@@ -1,4 +1,7 @@
 // The leader of a list.
+
+#![tactic(auto)]
+
 ghost use Rattle.std.specs.Prelude.{◌≡◌};
 ghost use Rattle.protocol.specs.Steps.{leader_of};
 

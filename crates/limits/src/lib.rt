@@ -1,5 +1,6 @@
 // The sizes and limits of document 01, as constants. specs/Limits.antt states the same figures as definitions, which the contracts
 // cite: where the two differ, no contract of a caller is proved.
+
 #![tactic(auto)]
 
 pub mod refusal;

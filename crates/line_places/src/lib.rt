@@ -1,4 +1,7 @@
 // Where the bases that a line of events names stand in the net, and where the next line begins.
+
+#![tactic(auto)]
+
 ghost use Rattle.std.specs.Prelude.{◌≡◌, ◌<◌};
 ghost use Rattle.limits.specs.Limits.{most_bases};
 ghost use Rattle.stored_walk.specs.State.{next_of};
@@ -22,7 +25,7 @@ fn place_of(b: u8) -> usize
 }
 
 // Where the base stands that sends, where the one that is reached, and where the line behind begins.
-#[derive(Drop)]
+#[derive(Clone, Copy)]
 pub struct Places {
     pub from: usize,
     pub to: usize,

@@ -1,4 +1,7 @@
 // A line of a schedule as it stands, and what its event did to the net as it was before.
+
+#![tactic(auto)]
+
 pub mod line;
 
 use crate::line::show_line;

@@ -5,7 +5,7 @@ ghost use Rattle.lines.specs.Lines.{two_at, is_base, two_bases};
 use text::number::{Number, field_at};
 
 // Two numbers, and the position behind them.
-#[derive(Drop)]
+#[derive(Clone, Copy)]
 pub enum Two {
     Both(u32, u32, usize),
     Neither,

@@ -1,5 +1,5 @@
 // An event that a line names, and the position behind the line. A forgery names where its bytes stand and how many they are.
-#[derive(Drop)]
+#[derive(Clone, Copy)]
 pub enum Line {
     Start {
         base: u8,

@@ -1,4 +1,7 @@
 // Whether what is held of one link is sound, or nothing.
+
+#![tactic(auto)]
+
 ghost use Rattle.std.specs.Prelude.{◌≡◌};
 ghost use Rattle.protocol.specs.Sound.{verifies_sound, held_sound, link_sound, place_sound};
 

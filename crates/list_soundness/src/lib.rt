@@ -1,4 +1,7 @@
 // Whether a list in its array is sound: one that a vector message may hold.
+
+#![tactic(auto)]
+
 ghost use Rattle.std.specs.Prelude.{◌≡◌};
 ghost use Rattle.protocol.specs.Sound.{list_sound};
 

@@ -1,5 +1,6 @@
 // The lesser of two numbers, and the first of two by which a call is turned down. In specs/ the words over tests and lists that the
 // definitions share, with their laws.
+
 #![tactic(auto)]
 
 ghost use Rattle.std.specs.Prelude.{min, ◌≡◌};

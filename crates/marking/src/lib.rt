@@ -1,4 +1,7 @@
 // The mark of a broadcast that has been carried to a base.
+
+#![tactic(auto)]
+
 ghost use Rattle.std.specs.Prelude.{◌≡◌};
 ghost use Rattle.node.specs.Node.{marked};
 

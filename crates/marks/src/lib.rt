@@ -1,4 +1,7 @@
 // Which broadcasts of the others were carried to a base.
+
+#![tactic(auto)]
+
 ghost use Rattle.std.specs.Prelude.{◌≡◌, suc, not};
 ghost use Rattle.counting.specs.Sums.{bit, sum};
 ghost use Rattle.node.specs.Node.{heard_by};

@@ -1,4 +1,5 @@
 // Which identifiers stand among the first count of a slice; where the slice is shorter, among all that it has.
+
 #![tactic(auto)]
 
 ghost use Rattle.std.specs.Prelude.{◌≡◌, take, drop};

@@ -1,4 +1,7 @@
 // Numbers 11 and 12: the identifiers of a message.
+
+#![tactic(auto)]
+
 ghost use Rattle.std.specs.Prelude.{◌≡◌};
 ghost use Rattle.frame.specs.Reading.{list_refusal};
 

@@ -5,7 +5,7 @@ use output::with_numbers;
 use parts::{part, plus};
 
 // Base b of n, which had made so many broadcasts, and whether it stops.
-#[derive(Drop)]
+#[derive(Clone, Copy)]
 pub struct Caller {
     pub b: u8,
     pub n: u8,

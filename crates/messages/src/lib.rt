@@ -1,5 +1,8 @@
 // A message that was read, as the code hands it on: its kind, and its identifiers with zeros behind. The numbers by which one that no
 // reading gives is turned down.
+
+#![tactic(auto)]
+
 ghost use Rattle.std.specs.Prelude.{◌≡◌};
 ghost use Rattle.messages.specs.Messages.{message_refusal};
 

@@ -1,5 +1,8 @@
 // A whole net as the program keeps it: one node a base, the links that are faulty, and how far the net's schedule is read.
 // specs/Abstraction.antt says which net of document 01 it stands for.
+
+#![tactic(auto)]
+
 pub mod made;
 pub mod nodes;
 
@@ -8,7 +11,7 @@ use limits::MOST_BASES;
 use node::Node;
 
 // The header of a schedule, as far as it is read.
-#[derive(Drop)]
+#[derive(Clone, Copy)]
 pub struct Header {
     pub n: u8,
     pub t: u8,
@@ -22,7 +25,7 @@ pub struct Header {
     pub refusal: u8,
 }
 
-#[derive(Drop)]
+#[derive(Clone, Copy)]
 pub struct StoredNet {
     pub n: u8,
     pub t: u8,

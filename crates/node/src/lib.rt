@@ -1,5 +1,8 @@
 // One base of a net as the program keeps it: its record, its broadcasts in the order written, and which broadcasts of the others
 // were carried to it. specs/Node.antt says what it stands for.
+
+#![tactic(auto)]
+
 pub mod log;
 
 use limits::{LONGEST_FRAME, MOST_BASES};
@@ -11,14 +14,14 @@ pub const MOST_BROADCASTS: usize = MOST_BASES + 3;
 // One mark for each broadcast of each base.
 pub const MARKS: usize = MOST_BASES * MOST_BROADCASTS;
 
-#[derive(Drop)]
+#[derive(Clone, Copy)]
 pub struct Frame {
     pub len: usize,
     // The frame, zeros behind it.
     pub bytes: [u8; LONGEST_FRAME],
 }
 
-#[derive(Drop)]
+#[derive(Clone, Copy)]
 pub struct Node {
     pub base: Base,
     // How many broadcasts there are, and those.

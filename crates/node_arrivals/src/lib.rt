@@ -1,4 +1,7 @@
 // A burst arrives at a base of the program's net: its reading is taken apart, and what was read arrives.
+
+#![tactic(auto)]
+
 ghost use Rattle.std.specs.Prelude.{◌+◌, ◌*◌, ◌-◌, ◌≤◌, ◌≡◌, length, take, drop};
 ghost use Rattle.limits.specs.Limits.{longest_burst};
 ghost use Rattle.decoding.specs.Decoding.{id_array};

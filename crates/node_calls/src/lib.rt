@@ -1,5 +1,8 @@
 // Calls on the record of a base of the program's net: a start, and the arrival of a message that was read. The frames that a call writes
 // join the base's broadcasts.
+
+#![tactic(auto)]
+
 ghost use Rattle.std.specs.Prelude.{◌≡◌, length};
 ghost use Rattle.limits.specs.Limits.{output_room};
 ghost use Rattle.protocol.specs.Steps as Steps;
@@ -14,7 +17,7 @@ use limits::{MOST_BASES, OUTPUT_ROOM};
 use node::Node;
 
 // A base after a call on its record, beside the number by which the call was turned down, 0 for none.
-#[derive(Drop)]
+#[derive(Clone, Copy)]
 pub struct NodeAnswer {
     pub refusal: u8,
     pub node: Node,

@@ -1,4 +1,7 @@
 // The links of a base by their numbers, and which of them goes to which base.
+
+#![tactic(auto)]
+
 ghost use Rattle.std.specs.Prelude.{◌-◌, min, ◌≡◌};
 ghost use Rattle.limits.specs.Limits.{most_links};
 ghost use Rattle.protocol.specs.Numbering.{base_at, link_to};

@@ -1,4 +1,5 @@
 // Standard output, written in pieces as they come.
+
 #![tactic(auto)]
 
 use libc::STDOUT_FILENO;

@@ -1,4 +1,5 @@
 // Parts of slices and sums of places, for any numbers; which bytes print.
+
 #![tactic(auto)]
 
 ghost use Rattle.std.specs.Prelude.{◌≡◌};

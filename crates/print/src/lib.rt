@@ -1,4 +1,5 @@
 // Texts put at a place of an output. A text that does not fit is not written, and the place stays.
+
 #![tactic(auto)]
 
 ghost use Rattle.std.specs.Prelude.{◌≡◌, ◌+◌, leb};

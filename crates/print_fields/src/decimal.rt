@@ -5,7 +5,7 @@ ghost use Rattle.print.specs.Decimal.{most_digits, decimal_text};
 use crate::MOST_DIGITS;
 
 // The digits stand at the array's end.
-#[derive(Drop)]
+#[derive(Clone, Copy)]
 pub(crate) struct Digits {
     pub start: usize,
     pub bytes: [u8; MOST_DIGITS],

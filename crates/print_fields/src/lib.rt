@@ -1,4 +1,7 @@
 // A label and a number in decimal, put at a place of an output. Where both do not fit, nothing is written, and the place stays.
+
+#![tactic(auto)]
+
 mod decimal;
 
 ghost use Rattle.std.specs.Prelude.{◌≡◌};

@@ -18,10 +18,10 @@ use Rattle.protocol.specs.contracts.Link as L
 use Rattle.protocol.specs.contracts.Base as B
 
 pub link_sized : (l : Link) (vs : List Val) → Is L.the_row l vs → SizedLink l
-link_sized l vs p = record { verifies = simp length-map at p.1.1.1.0.1.0.1; list = simp length-map at p.1.1.1.1.0.1.0.1 }
+link_sized l vs p = record { verifies = p.1.1.1.0.1.0.1; list = p.1.1.1.1.0.1.0.1 }
 
 links_sized : (ls : List Link) (us : List Val)
-    → shadow (each (L.the_field).row.Denot (L.the_field).row.own_val (map (L.the_field).into ls) us) → (i : ℕ) (d : Link) → i < length ls
+    → shadow (each (L.the_row).Denot (L.the_row).own_val ls us) → (i : ℕ) (d : Link) → i < length ls
     → SizedLink (get_or ls i d)
 links_sized [] us p i d h = absurd (omega arith)
 links_sized (l ∷ ls) [] p i d h = absurd p
@@ -32,9 +32,9 @@ pub base_sized : (b : Base) (vs : List Val) → Is B.the_row b vs → Sized b
 unfolding link_at
 base_sized b vs p =
     let q = p.1.1.1.1.1.1.1.1.0 in
-    let all : length b.links ≡ most_links = simp length-map at q.1.0.1 in
+    let all : length b.links ≡ most_links = q.1.0.1 in
     record {
-      final = simp length-map at p.1.1.1.1.1.1.1.0.1.0.1;
+      final = p.1.1.1.1.1.1.1.0.1.0.1;
       links = all;
       each = λ i h. links_sized b.links q.0 q.1.1 i _ (omega arith);
     }

@@ -1,9 +1,12 @@
 // What a base holds, and what a call answers. specs/ has document 01's rules for them.
+
+#![tactic(auto)]
+
 use limits::{LIST_ROOM, MOST_BASES, MOST_LINKS};
 
 // What is held of one link. Every byte belongs to a field, here and in a base: two records that are equal are equal byte for byte.
 #[repr(C)]
-#[derive(Drop)]
+#[derive(Clone, Copy)]
 pub struct Link {
     // The one Announce identifier accepted there, or zero.
     pub announce: u32,
@@ -26,7 +29,7 @@ pub const PRIME: u8 = 2;
 pub const SECONDARY: u8 = 3;
 
 #[repr(C)]
-#[derive(Drop)]
+#[derive(Clone, Copy)]
 pub struct Base {
     pub n: u8,
     pub t: u8,
@@ -42,7 +45,7 @@ pub struct Base {
 
 // What a call answers: accepted or discarded with the length of each frame that it broadcast, zero for none, and the slots of those that
 // are its own and of those that it relays; or the number by which it was turned down.
-#[derive(Drop)]
+#[derive(Clone, Copy)]
 pub enum Outcome {
     Accepted {
         first: usize,
@@ -62,7 +65,7 @@ pub enum Outcome {
 }
 
 // What the leader call answers.
-#[derive(Drop)]
+#[derive(Clone, Copy)]
 pub enum Leader {
     Is(u32),
     NotStopped,

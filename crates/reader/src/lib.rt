@@ -1,4 +1,7 @@
 // A burst, read from its end.
+
+#![tactic(auto)]
+
 ghost use Rattle.std.specs.Prelude.{◌≡◌};
 ghost use Rattle.reader.specs.Answers.{reading_of};
 
@@ -7,7 +10,7 @@ use limits::frame_bytes;
 
 // What a reading answers: the message's kind, the count of its identifiers and where they start in the burst, or the number by
 // which the burst is turned down.
-#[derive(Drop)]
+#[derive(Clone, Copy)]
 pub enum Reading {
     Message { kind: u8, count: u8, start: usize },
     Refused(u8),

@@ -1,4 +1,7 @@
 // What a reading gives, as numbers and an array: a function that C calls returns no enum.
+
+#![tactic(auto)]
+
 ghost use Rattle.std.specs.Prelude.{◌≡◌};
 ghost use Rattle.decoding.specs.Decoding.{id_array};
 ghost use Rattle.reader.specs.Answers.{reading_of, stretch};
@@ -11,7 +14,7 @@ use reader::{Reading, read};
 
 // Of reading a burst: the body is the count identifiers of the burst from start on, four bytes each.
 #[repr(C)]
-#[derive(Drop)]
+#[derive(Clone, Copy)]
 pub struct ReadAnswer {
     pub refusal: u8,
     pub kind: u8,

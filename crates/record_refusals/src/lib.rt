@@ -1,4 +1,7 @@
 // Numbers 1 to 4 of a record, in checking order.
+
+#![tactic(auto)]
+
 ghost use Rattle.std.specs.Prelude.{◌≡◌};
 ghost use Rattle.protocol.specs.Sound.{record_refusal};
 

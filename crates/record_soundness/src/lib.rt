@@ -1,4 +1,7 @@
 // Whether a record is sound.
+
+#![tactic(auto)]
+
 ghost use Rattle.std.specs.Prelude.{◌≡◌, eqb, leb};
 ghost use Rattle.limits.specs.Limits.{most_links};
 ghost use Rattle.lists.specs.Choice.{choose};

@@ -1,5 +1,8 @@
 // One call from a schedule's bytes to the report: the state of every base at the end, or the first line that is turned down. C calls it too
 // (include/roster.h): a slice is a pointer and a length there.
+
+#![tactic(auto)]
+
 mod output;
 
 ghost use Rattle.std.specs.Prelude.{◌≡◌, ◌≤◌, length};

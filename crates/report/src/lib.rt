@@ -1,4 +1,7 @@
 // The lines of a report but for those of the bases. Where there is no room for any line, nothing is written and the place stays.
+
+#![tactic(auto)]
+
 ghost use Rattle.std.specs.Prelude.{◌≡◌, ◌+◌, ◌≤◌};
 ghost use Rattle.print.specs.Put.{room_end, room_output};
 ghost use Rattle.schedule.specs.Report.{waiting_line, refused_line, line_room};

@@ -1,4 +1,7 @@
 // What a base broadcasts at a message, by what it decided, and what is then to be set in its record.
+
+#![tactic(auto)]
+
 ghost use Rattle.std.specs.Prelude.{◌≡◌, length};
 ghost use Rattle.frame.specs.Encoding.{over};
 ghost use Rattle.responding.specs.Responding.{response_frames, response_outcome, response_change};

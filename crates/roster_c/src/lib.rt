@@ -1,4 +1,7 @@
 // The calls on a base as C sees them (include/roster.h): records lent by pointer, slices as pointer and length, answers as numbers.
+
+#![tactic(auto)]
+
 ghost use Rattle.std.specs.Prelude.{◌≡◌, length};
 ghost use Rattle.writer.specs.Writing.{written_of, write_output};
 ghost use Rattle.decoding.specs.Decoding.{id_array};

@@ -1,5 +1,8 @@
 // The lines of a schedule's header as they stand, and what is told behind the lines: what waits and the slots of each base, or why a line
 // is refused.
+
+#![tactic(auto)]
+
 pub mod refused;
 pub mod slots;
 pub mod waits;

@@ -1,5 +1,8 @@
 // The lines of a schedule one after another, what each did, and behind them what waits and the slots of each base, or why a line is
 // refused, told on standard output. Each line of events is taken by the replay's own step.
+
+#![tactic(auto)]
+
 use event_lines::line_steps;
 use limits::LONGEST_SCHEDULE;
 use line_trace::show_event;

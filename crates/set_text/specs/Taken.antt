@@ -119,8 +119,8 @@ lines_taken text (p ∷ s) st before rest e at r N A U few most =
     let begins : text ≡ before ++ (pair_line p ++ (pair_lines s ++ rest)) = e ∙ ap (λ (u : List ℕ). before ++ u) (first_pair p s rest) in
     let line : faulty_line st.n text st.at ≡ Both p.lower p.higher next
     = rw (begins, at) (pair_read st.n p N.0 most before (pair_lines s ++ rest)) in
-    let goes_on_lem = begins ∙ sym (append_assoc before (pair_line p) (pair_lines s ++ rest)) in
-    let others = lines_taken text s then (before ++ pair_line p) rest goes_on_lem (omega (arith, at, length-append before (pair_line p))) r N.1
+    let goes_on = begins ∙ sym (append_assoc before (pair_line p) (pair_lines s ++ rest)) in
+    let others = lines_taken text s then (before ++ pair_line p) rest goes_on (omega (arith, at, length-append before (pair_line p))) r N.1
     A.1 (still_unnamed st.n p st.faulty s N.1 A.0 U.1)
     (omega (arith, few, length-append st.faulty (named p ∷ []))) most in
     repeat_first (length s) (faulty_step scheduled text) st

@@ -1,5 +1,8 @@
 // Every set of faulty links of a small net in lines, as `hillfaults` prints them: each by its number, its links as a schedule names them.
 // Where there is no room for so many lines, nothing is written.
+
+#![tactic(auto)]
+
 mod put;
 
 ghost use Rattle.std.specs.Prelude.{◌≡◌, ◌≤◌, length};

@@ -1,5 +1,8 @@
 // A message at a base that runs, or that has just started: whether it is accepted, and what the base then decides. The record is read here,
 // and nothing is written. A place past the last link stands for the last.
+
+#![tactic(auto)]
+
 ghost use Rattle.std.specs.Prelude.{◌≡◌};
 ghost use Rattle.protocol.specs.Steps.{with_link};
 ghost use Rattle.protocol.specs.Steps.Cases.{begun};

@@ -1,4 +1,7 @@
 // The slots of airtime that a base has taken since it was idle, as its record tells them.
+
+#![tactic(auto)]
+
 ghost use Rattle.std.specs.Prelude.{◌≡◌, ◌≤◌};
 ghost use Rattle.limits.specs.Limits.{list_slots};
 ghost use Rattle.slots_taken.specs.Taken.{own_by, vote_by, slots_taken};
@@ -7,7 +10,7 @@ use certification::certified_count;
 use limits::{frame_bytes, frame_slots};
 use protocol::{Base, IDLE, PRIME};
 
-#[derive(Drop)]
+#[derive(Clone, Copy)]
 pub struct Slots {
     pub own: usize,
     pub relayed: usize,

@@ -1,4 +1,7 @@
 // The two frames of a start.
+
+#![tactic(auto)]
+
 ghost use Rattle.std.specs.Prelude.{◌≡◌, length};
 ghost use Rattle.frame.specs.Encoding.{over};
 ghost use Rattle.start_frames.specs.Frames.{start_sizes, start_frames};
@@ -7,7 +10,7 @@ use frame::kind::{ANNOUNCE, VERIFY};
 use two_frames::put_two;
 
 // The lengths of both frames, and their slots together.
-#[derive(Drop)]
+#[derive(Clone, Copy)]
 pub struct StartSizes {
     pub announce: usize,
     pub verify: usize,

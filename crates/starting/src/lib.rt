@@ -1,5 +1,8 @@
 // The start of a base, as what it changes. A record goes in by value, and what is to be changed in it comes back beside the answer; frames
 // go into the output that is lent.
+
+#![tactic(auto)]
+
 ghost use Rattle.std.specs.Prelude.{length};
 ghost use Rattle.protocol.specs.Steps as Steps;
 ghost use Rattle.change.specs.Change.{Does};

@@ -1,4 +1,7 @@
 // The state of a base in words, and the list that it has stopped with.
+
+#![tactic(auto)]
+
 ghost use Rattle.std.specs.Prelude.{◌≡◌, ◌+◌, ◌*◌, ◌≤◌, ◌++◌, length, take};
 ghost use Rattle.print.specs.Put.{room_end, room_output, Put};
 ghost use Rattle.schedule.specs.Report.{identifier_room, final_room, state_room, list_text, final_text, state_text};

@@ -1,4 +1,7 @@
 // The change that a call of the engine answers with, made where the record lies.
+
+#![tactic(auto)]
+
 ghost use Rattle.std.specs.Prelude.{◌≡◌};
 ghost use Rattle.change.specs.Change.{changed_base};
 ghost use Rattle.c_answers.specs.Numbers.{outcome_numbers};

@@ -1,4 +1,7 @@
 // The body of a burst, lent out of the burst.
+
+#![tactic(auto)]
+
 ghost use Rattle.std.specs.Prelude.{◌≡◌, ◌+◌};
 ghost use Rattle.reader.specs.Answers.{stretch_start, stretch};
 

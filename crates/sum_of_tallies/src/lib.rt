@@ -1,4 +1,7 @@
 // The sum of the certified identifiers' tallies.
+
+#![tactic(auto)]
+
 ghost use Rattle.std.specs.Prelude.{◌*◌, ◌≤◌, ◌≡◌, take};
 ghost use Rattle.limits.specs.Limits.{most_bases, most_links};
 ghost use Rattle.lists.specs.Lists.{sum_over};

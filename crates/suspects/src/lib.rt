@@ -1,4 +1,7 @@
 // Suspect pairs of certified identifiers.
+
+#![tactic(auto)]
+
 ghost use Rattle.std.specs.Prelude.{◌≡◌};
 ghost use Rattle.protocol.specs.Record.{suspect_pair, suspect_own, suspects};
 

@@ -1,4 +1,7 @@
 // The tally of an identifier.
+
+#![tactic(auto)]
+
 ghost use Rattle.std.specs.Prelude.{◌≤◌, ◌≡◌};
 ghost use Rattle.limits.specs.Limits.{most_bases, most_links};
 ghost use Rattle.protocol.specs.Links.{holds_verify};

@@ -1,4 +1,5 @@
 // A decimal number at a position of a text. Every reader answers the position behind what it read.
+
 #![tactic(auto)]
 
 pub mod number;

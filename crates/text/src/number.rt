@@ -5,7 +5,7 @@ ghost use Rattle.text.specs.Number.{most_number, digits_from, number_at, field_a
 pub const MOST_NUMBER: u64 = 4294967295;
 
 // A number and the position behind it.
-#[derive(Drop)]
+#[derive(Clone, Copy)]
 pub enum Number {
     Value(u32, usize),
     Bad,

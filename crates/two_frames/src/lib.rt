@@ -1,4 +1,7 @@
 // Two frames of the same identifiers, one after the other, at the front of an output. What stands past them in the output stays as it was.
+
+#![tactic(auto)]
+
 ghost use Rattle.std.specs.Prelude.{◌≡◌, length};
 ghost use Rattle.two_frames.specs.TwoFrames.{two_fit, two_sizes, two_output};
 
@@ -8,7 +11,7 @@ use frame_room::frame_fits;
 use framing::put;
 
 // The sizes of two frames, one after the other.
-#[derive(Drop)]
+#[derive(Clone, Copy)]
 pub struct TwoSizes {
     pub front: FrameSize,
     pub next: FrameSize,

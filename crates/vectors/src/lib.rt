@@ -1,4 +1,7 @@
 // The tally of a list.
+
+#![tactic(auto)]
+
 ghost use Rattle.std.specs.Prelude.{◌≤◌, ◌≡◌, take};
 ghost use Rattle.limits.specs.Limits.{most_links};
 ghost use Rattle.protocol.specs.Record.{list_tally};

@@ -1,4 +1,7 @@
 // What waits: broadcasts and bases at the other end of a good link to which they were not carried.
+
+#![tactic(auto)]
+
 ghost use Rattle.std.specs.Prelude.{suc, ◌≤◌, ◌<◌, ◌*◌, ◌≡◌};
 ghost use Rattle.limits.specs.Limits.{most_bases};
 ghost use Rattle.counting.specs.Sums.{sum};

@@ -1,9 +1,12 @@
 // A word at a position of a text.
+
+#![tactic(auto)]
+
 ghost use Rattle.std.specs.Prelude.{◌≡◌};
 ghost use Rattle.words.specs.Word.{word_at};
 
 // The position behind a word.
-#[derive(Drop)]
+#[derive(Clone, Copy)]
 pub enum Word {
     Past(usize),
     Other,

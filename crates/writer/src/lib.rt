@@ -1,5 +1,8 @@
 // The frame of a message at the front of an output, or the number by which it is turned down. What stands past it in the output stays as it
 // was.
+
+#![tactic(auto)]
+
 ghost use Rattle.std.specs.Prelude.{◌≡◌, length};
 ghost use Rattle.writer.specs.Writing.{write_refusal, written_of, write_output};
 
@@ -10,7 +13,7 @@ use limits::{net_refusal, refusal};
 use message_lists::list_refusal;
 
 // What a write answers: the frame's size, or the number by which it is turned down.
-#[derive(Drop)]
+#[derive(Clone, Copy)]
 pub enum Written {
     Frame(FrameSize),
     Refused(u8),

@@ -1,4 +1,4 @@
--- `deciding::runs_on_lem` meets its contract.
+-- `deciding::runs_on` meets its contract.
 use Rattle.deciding.specs.Deciding.Laws.{runs_with}
 use mathlib.Core.Path.{refl}
 use Rattle.deciding.proofs.runs_on.Statement.{statement}

@@ -1,4 +1,4 @@
--- `event_lines::goes_on_lem` meets its contract: one test after another.
+-- `event_lines::goes_on` meets its contract: one test after another.
 use mathlib.Core.Path.{refl}
 use borrow.Author.Tests.{eq-eqb, ne_eqb, lt-ltb, le-ltb, le-leb, lt-leb}
 use Rattle.lists.specs.Choice.Laws.{and_fails, and_goes_on}

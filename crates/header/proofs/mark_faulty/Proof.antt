@@ -42,10 +42,10 @@ module _ (h : Header) (a b next : ℕ) {named : FaultyNamed} (e : named ≡ faul
   unfolding mark_step naming_refusal faulty_of begun_net
   turned_down some q = judged_refused _ _ number some q ∙ either _ _ _ _
 
-  goes_on_lem : named.refusal ≡ 0 → {r : Header} → r ≡ onward_header h h.ids named.faulty next
+  goes_on : named.refusal ≡ 0 → {r : Header} → r ≡ onward_header h h.ids named.faulty next
       → begun_net r ≡ mark_step replaying a b next (begun_net h)
   unfolding mark_step naming_refusal faulty_of begun_net
-  goes_on_lem none q =
+  goes_on none q =
       judged_onward _ number none
       (ap begun_net (q ∙ ap (λ (f : Faulty). onward_header h h.ids f next) (marked none)) ∙ marked_onward h a b next)
       ∙ either _ _ _ _
@@ -63,7 +63,7 @@ onward-requires : tie.Need-onward-requires
 onward-requires c κs = c.before.before.before.before.before.requires
 
 returns-2 : tie.Need-returns-2
-returns-2 c = goes_on_lem _ _ _ _ c.before.before.before.before.before.name-faulty.ensures
+returns-2 c = goes_on _ _ _ _ c.before.before.before.before.before.name-faulty.ensures
     c.before.before.before.if1.false c.onward.ensures
 
 pub mark-faulty-spec : {M : Type 1} → statement M

@@ -45,15 +45,15 @@ module _ (b : Base) (link number kind : ℕ) (ids output : List ℕ) (passes : h
   N : NetSize b.n
   N = (record_passed b R.refusal).net
 
-  goes_on_lem : message_arrival b link number kind ids (length output) ≡ arrival_step b (link - 1) (message_in b.n kind ids)
-  goes_on_lem = heard_on b link number kind ids (length output) passes
+  goes_on : message_arrival b link number kind ids (length output) ≡ arrival_step b (link - 1) (message_in b.n kind ids)
+  goes_on = heard_on b link number kind ids (length output) passes
 
   -- ---- a stopped base
   pub heard_stopped : 2 ≤ b.state → ChangeOf b (discards b) r
       → Does b (message_arrival b link number kind ids (length output)) r output output
   unfolding stopped
   heard_stopped t p =
-      does_as (goes_on_lem ∙ arrival_stopped b (link - 1) (message_in b.n kind ids) (le-leb 2 b.state t)) (discards_does b output p)
+      does_as (goes_on ∙ arrival_stopped b (link - 1) (message_in b.n kind ids) (le-leb 2 b.state t)) (discards_does b output p)
 
   module _ (z : length ids ≡ most_bases) (a : Accepted) (e : a ≡ accepted_at b (within_links (link - 1)) kind ids)
       (D : Decision) (f : D ≡ decided_at b (within_links (link - 1)) a kind ids) (after : List ℕ) where
@@ -77,7 +77,7 @@ module _ (b : Base) (link number kind : ℕ) (ids output : List ℕ) (passes : h
         → Does b (message_arrival b link number kind ids (length output)) r output after
     unfolding m with_state
     heard_running t k p q =
-        does_as (goes_on_lem ∙ arrival_running b (link - 1) (message_in b.n kind ids) t k)
+        does_as (goes_on ∙ arrival_running b (link - 1) (message_in b.n kind ids) t k)
         (responds output after r (omega (arith, H.place.wide, message_room (begun b) (link - 1) kind ids N)) p q)
 
     -- ---- an idle base: the frames of the start, and those of the message in the rest of the output
@@ -129,4 +129,4 @@ module _ (b : Base) (link number kind : ℕ) (ids output : List ℕ) (passes : h
     unfolding m idle
     heard_idle Z k p q =
         let s = eq-eqb b.state 0 k in
-        does_as (goes_on_lem ∙ arrival_idle b (link - 1) (message_in b.n kind ids) s) (starts Z s p q)
+        does_as (goes_on ∙ arrival_idle b (link - 1) (message_in b.n kind ids) s) (starts Z s p q)

@@ -6,7 +6,7 @@ use Prim.Native.Nat.{◌-◌, ◌≤◌}
 use mathlib.Core.Path.{◌≡◌, refl, sym, ◌∙◌}
 use lib.ListN.{length, drop}
 use Rattle.hexadecimal.specs.Hex.{hex_from}
-use Rattle.hexadecimal.specs.Hex.Laws.{pair_inside, from_end_lem, from_feed, from_pair, from_other}
+use Rattle.hexadecimal.specs.Hex.Laws.{pair_inside, from_end, from_feed, from_pair, from_other}
 use Rattle.hexadecimal.proofs.hex_from.Statement.{statement}
 use Rattle.hexadecimal.proofs.hex_from.Tie as tie
 
@@ -60,7 +60,7 @@ returns-2 c =
     sym (l.invariant.1 ∙ from_other _ _ _ loop-test.true if1.false (sym c.before.is-pair.ensures ∙ c.if2.false))
 
 returns-3 : tie.Need-returns-3 invariant-loop decreases-loop
-returns-3 c = sym (c.before.loop.invariant.1 ∙ from_end_lem _ _ _ c.loop-test.false)
+returns-3 c = sym (c.before.loop.invariant.1 ∙ from_end _ _ _ c.loop-test.false)
 
 pub hex-from-spec : {M : Type 1} → statement M
 hex-from-spec =

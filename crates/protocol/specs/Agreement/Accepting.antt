@@ -26,7 +26,7 @@ pub data Saying (n : ℕ) (m : Message) (b a : View) : ℕ → List Message → 
 
 -- ---- the state and the final list after the check, and what is broadcast then
 pub data Ending (n t me : ℕ) (m : Message) (a : View) : ℕ → List ℕ → List Message → Type 0 where
-  runs_on_lem : ((Vector m → ⊥) → Prime n t me a → ⊥) → ((v : List ℕ) → ListOf m v → Secondary n t a v → ⊥) → Ending n t me m a 1 a.final []
+  runs_on : ((Vector m → ⊥) → Prime n t me a → ⊥) → ((v : List ℕ) → ListOf m v → Secondary n t a v → ⊥) → Ending n t me m a 1 a.final []
   ends_prime : (v : List ℕ) → Prime n t me a → Lists n a.named v → Ending n t me m a 2 v (correct_final v ∷ [])
   ends_secondary : (v : List ℕ) → Secondary n t a v → Ending n t me m a 3 v (correct_final v ∷ [])
 
@@ -69,7 +69,7 @@ module _ (n t me own x : ℕ) (x_in : x < n) (m : Message) (b a : View) (S : Sto
       → (m ≡ correct_final v) × (b.sent ≡ 0)
   telling_vote (says_name g above e) v h = let q = Memᴰ.eq_of_singleton h in impossible (cc)
   telling_vote (says_vote u e unsent two) v h = let q = Memᴰ.eq_of_singleton h in (cc, unsent)
-  telling_vote (says_nothing no_name few) v h = absurd (Memᴰ.not_nil h)
+  telling_vote (says_nothing no_name few) v h = absurd (Memᴰ.not-nil h)
 
   telling_few : {sent : ℕ} {said : List Message} → Saying n m b a sent said → (v : List ℕ) → m ≡ correct_final v → sent ≡ 0
       → corrects n a v ≤ 1
@@ -90,24 +90,24 @@ module _ (n t me own x : ℕ) (x_in : x < n) (m : Message) (b a : View) (S : Sto
 
   -- ---- how it ends
   ending_states : {state : ℕ} {final : List ℕ} {out : List Message} → Ending n t me m a state final out → (1 ≤ state) × (state ≤ 3)
-  ending_states (runs_on_lem p q) = omega arith
+  ending_states (runs_on p q) = omega arith
   ending_states (ends_prime v P L) = omega arith
   ending_states (ends_secondary v P) = omega arith
 
   ending_says : {state : ℕ} {final : List ℕ} {out : List Message} → Ending n t me m a state final out → (w : Message) → Said w out
       → (w ≡ correct_final final) × (2 ≤ state)
-  ending_says (runs_on_lem p q) w h = absurd (Memᴰ.not_nil h)
+  ending_says (runs_on p q) w h = absurd (Memᴰ.not-nil h)
   ending_says (ends_prime v P L) w h = (Memᴰ.eq_of_singleton h, omega arith)
   ending_says (ends_secondary v P) w h = (Memᴰ.eq_of_singleton h, omega arith)
 
   ending_said : {state : ℕ} {final : List ℕ} {out : List Message} → Ending n t me m a state final out → 2 ≤ state
       → Said (correct_final final) out
-  ending_said (runs_on_lem p q) h = absurd (omega arith)
+  ending_said (runs_on p q) h = absurd (omega arith)
   ending_said (ends_prime v P L) h = Memᴰ.head refl
   ending_said (ends_secondary v P) h = Memᴰ.head refl
 
   ending_prime : {state : ℕ} {final : List ℕ} {out : List Message} → Ending n t me m a state final out → state ≡ 1 → Prime n t me a → ⊥
-  ending_prime (runs_on_lem p q) e P = elim (vector_or_not m) [
+  ending_prime (runs_on p q) e P = elim (vector_or_not m) [
     | inl h ↦ quiescent.not_prime runs (stored_prime x m b a S n t me h P)
     | inr h ↦ p h P
   ]
@@ -116,7 +116,7 @@ module _ (n t me own x : ℕ) (x_in : x < n) (m : Message) (b a : View) (S : Sto
 
   ending_secondary : {state : ℕ} {final : List ℕ} {out : List Message} → Ending n t me m a state final out → (v : List ℕ) → state ≡ 1
       → Secondary n t a v → ⊥
-  ending_secondary (runs_on_lem p q) v e P = elim (list_or_not m v) [
+  ending_secondary (runs_on p q) v e P = elim (list_or_not m v) [
     | inl h ↦ q v h P
     | inr h ↦ quiescent.not_secondary v runs (stored_secondary x m b a S n t v h P)
   ]
@@ -190,7 +190,7 @@ module _ (n t me own x : ℕ) (x_in : x < n) (m : Message) (b a : View) (S : Sto
       where
         go : {state : ℕ} {final : List ℕ} {out : List Message} → Ending n t me m a state final out → 2 ≤ state
             → Stopping n t me b (closing a state sent final)
-        go (runs_on_lem p q) h = absurd (omega arith)
+        go (runs_on p q) h = absurd (omega arith)
         go (ends_prime v P L) h = as_prime (unfold closing in refl) (prime_closing n t me a 2 sent v P) (unfold closing in L)
         go (ends_secondary v P) h = as_secondary (unfold closing in refl) (unfold closing in secondary_closing n t a 3 sent v v P)
 
@@ -206,7 +206,7 @@ module _ (n t me own x : ℕ) (x_in : x < n) (m : Message) (b a : View) (S : Sto
             name = unfold closing in sym (subst (ViewHolds a x) e S.here).1
         go (says_vote v e unsent two) w h = subst (Backed n own (closing a state 1 final)) (sym (Memᴰ.eq_of_singleton h))
             (omega (arith, corrects_closing n a state 1 final v), (unfold closing in le_refl 1))
-        go (says_nothing no_name few) w h = absurd (Memᴰ.not_nil h)
+        go (says_nothing no_name few) w h = absurd (Memᴰ.not-nil h)
 
     vote_said : (v : List ℕ) → Said (verify_final v) (said ++ out) → (m ≡ correct_final v) × (b.sent ≡ 0)
     vote_said v h = elim (Memᴰ.append_cases said h) [
@@ -238,7 +238,7 @@ module _ (n t me own x : ℕ) (x_in : x < n) (m : Message) (b a : View) (S : Sto
         same y w e f = rw (e, f)
 
         ended : (w : Message) → (w ≡ correct_final final) × (2 ≤ state) → Backed n own c w
-        ended w (e, s) = subst (Backed n own c) (sym e) (unfold closing in (s, refl))
+        ended w h = subst (Backed n own c) (sym h.0) (unfold closing in (h.1, refl))
 
         named_said : (y : ℕ) → m ≡ announce (a.named y) → Said (verify (c.named y)) (said ++ out)
         named_said y e = unfold closing in Memᴰ.append_left out (telling_name T (a.named y) e)

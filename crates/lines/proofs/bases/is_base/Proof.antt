@@ -1,4 +1,4 @@
--- `lines::bases::is_base_lem` meets its contract: the two tests.
+-- `lines::bases::is_base` meets its contract: the two tests.
 use borrow.Author.Tests.{lt-leb, le-leb}
 use Rattle.lists.specs.Choice.{and}
 use Rattle.lines.specs.Lines.{is_base}

@@ -37,7 +37,7 @@ module _ (n t : ℕ) (faulty : ℕ → ℕ → ℕ) (id : ℕ → ℕ) (truth : 
 
   unsaid : (x : ℕ) (m : Message) → x < n → Said m ((seen N).log x) → ⊥
   unfolding seen
-  unsaid x m l h = Memᴰ.not_nil (subst (Said m) (F.silent x l) h)
+  unsaid x m l h = Memᴰ.not-nil (subst (Said m) (F.silent x l) h)
 
   unheard : (y x : ℕ) (m : Message) → y < n → x < n → x ≢ y → ViewHolds ((seen N).base y) x m → ⊥
   unfolding seen

@@ -30,7 +30,7 @@ pub record GroupInvariant (n t : ℕ) (faulty : ℕ → ℕ → ℕ) (id : ℕ �
   pub valid : (x : ℕ) (m : Message) → x < n → Said m (N.log x) → Valid n m
 
 one_valid : (n : ℕ) (says : List Message) (m : Message) → AllValid n says → Said m says → Valid n m
-one_valid n [] m p h = absurd (Memᴰ.not_nil h)
+one_valid n [] m p h = absurd (Memᴰ.not-nil h)
 one_valid n (w ∷ says) m p h = go (Memᴰ.cases_cons h) (λ k. one_valid n says m p.1 k)
   where
     go : (m ≡ w) ⊎ Said m says → (Said m says → Valid n m) → Valid n m
@@ -54,7 +54,7 @@ module _ (n t : ℕ) (faulty : ℕ → ℕ → ℕ) (id : ℕ → ℕ) (truth : 
   group_invariant (fresh {N = N} F) = record {
     invariant = invariant_begins n t faulty id truth N F;
     member = F.member;
-    valid = λ x m l h. absurd (Memᴰ.not_nil (subst (Said m) (F.silent x l) h));
+    valid = λ x m l h. absurd (Memᴰ.not-nil (subst (Said m) (F.silent x l) h));
   }
   group_invariant (group_starts {N = N} R y y_in) = go (group_invariant R)
     where

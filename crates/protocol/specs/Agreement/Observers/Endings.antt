@@ -32,7 +32,7 @@ use Rattle.protocol.specs.Agreement.Views.{View, Prime, Secondary, Lists}
 use Rattle.protocol.specs.Agreement.Calls.{ViewInput, message_input, Quiescent, Full, Taken, before, ViewCall}
 use Rattle.protocol.specs.Agreement.Growth.{grows_not}
 use Rattle.protocol.specs.Agreement.Storing.{Vector, ListOf, Stored}
-use Rattle.protocol.specs.Agreement.Accepting.{Saying, Ending, runs_on_lem, ends_prime, ends_secondary}
+use Rattle.protocol.specs.Agreement.Accepting.{Saying, Ending, runs_on, ends_prime, ends_secondary}
 use Rattle.protocol.specs.Agreement.Accepting.{closing, closing_secondary, secondary_closing, accepted_call}
 use Rattle.protocol.specs.Agreement.Observers.{place_of, link_for, view, ArrivalCall}
 use Rattle.protocol.specs.Agreement.Observers.Places.{place_inside, link_other}
@@ -50,9 +50,9 @@ unchanged_call n t me own i b quiescent on taken = record {
   heard = λ x m ne h. inl h;
   taken = taken;
   stopping = λ s. before s;
-  backed = λ m h. absurd (Memᴰ.not_nil h);
-  vote_first = λ v h. absurd (Memᴰ.not_nil h);
-  vote_one = λ v u h k. absurd (Memᴰ.not_nil h);
+  backed = λ m h. absurd (Memᴰ.not-nil h);
+  vote_first = λ v h. absurd (Memᴰ.not-nil h);
+  vote_one = λ v u h k. absurd (Memᴰ.not-nil h);
   start_said = λ s. inl s;
   names_said = λ x l h. inl (on, refl);
   vote_said = λ s. inl s;
@@ -177,11 +177,11 @@ module _ (me : ℕ) (b : Base) (inside : me < b.n) (R : Runs b) (S : Sized b) (q
     ends {state} {final} {out} E =
         accepted_call n t me b.own x x_in m see (view me c₀) stored see_running quiescent c.sent state final said out T E
 
-    goes_on_lem : ((Vector m → ⊥) → Prime n t me (view me c₀) → ⊥) → ((v : List ℕ) → ListOf m v → Secondary n t (view me c₀) v → ⊥)
+    goes_on : ((Vector m → ⊥) → Prime n t me (view me c₀) → ⊥) → ((v : List ℕ) → ListOf m v → Secondary n t (view me c₀) v → ⊥)
         → (view me c).final ≡ (view me c₀).final → ArrivalCall me b x m (accepts c said)
     unfolding accepts
-    goes_on_lem not_prime not_secondary same_final = subst₂ (λ u o. ViewCall n t me b.own (message_input x m) see u o)
-        (sym (view_closing ∙ ap (closing (view me c₀) 1 c.sent) same_final)) (append-nil said) (ends (runs_on_lem not_prime not_secondary))
+    goes_on not_prime not_secondary same_final = subst₂ (λ u o. ViewCall n t me b.own (message_input x m) see u o)
+        (sym (view_closing ∙ ap (closing (view me c₀) 1 c.sent) same_final)) (append-nil said) (ends (runs_on not_prime not_secondary))
 
     stops_call : (state : ℕ) (v : List ℕ) → length v ≡ n → Ending n t me m (view me c₀) state v (correct_final v ∷ [])
         → ArrivalCall me b x m (stops c state v said)
@@ -195,7 +195,7 @@ module _ (me : ℕ) (b : Base) (inside : me < b.n) (R : Runs b) (S : Sized b) (q
     unfolding secondary_check
     secondary_call v list vector same_final = choose_ind (ArrivalCall me b x m) (secondary_holds c v)
         (λ e. stops_call 3 v (valid_length n m v list w) (ends_secondary v (back v (secondary_seen me c Hc v e))))
-        (λ e. goes_on_lem (λ h. absurd (h vector))
+        (λ e. goes_on (λ h. absurd (h vector))
         (λ u h P. clash (seen_secondary me c Hc v (there v (subst (Secondary n t (view me c₀)) (sym (only u h)) P))) e) same_final)
       where
         only : (u : List ℕ) → ListOf m u → v ≡ u
@@ -226,7 +226,7 @@ module _ (me : ℕ) (b : Base) (inside : me < b.n) (R : Runs b) (S : Sized b) (q
     prime_call = choose_ind (ArrivalCall me b x m) (prime_holds c)
         (λ e. stops_call m w c c stored same Rc (λ s p f. refl) said T 2 (sort (certified c)) (whole e)
         (ends_prime (sort (certified c)) (to_net (prime_seen me c Hp Rc.standing.own e)) (lists e)))
-        (λ e. goes_on_lem m w c c stored same Rc (λ s p f. refl) said T (λ h P. clash (seen_prime me c Hp (from_net P)) e)
+        (λ e. goes_on m w c c stored same Rc (λ s p f. refl) said T (λ h P. clash (seen_prime me c Hp (from_net P)) e)
         (λ v h. absurd (no_list v h)) refl)
       where
         to_net : Prime c.n c.t me (view me c) → Prime n t me (view me c)

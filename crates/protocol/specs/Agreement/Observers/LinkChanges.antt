@@ -58,24 +58,24 @@ verify_added l g room = ap (λ k. take k (set l.verifies l.verify_count g)) (add
     ∙ take-suc-set l.verifies l.verify_count g room
 
 pub verify_changes : (n : ℕ) (l : Link) (g : ℕ) → l.verify_count < length l.verifies → Changes n (verify g) l (with_verify l g)
-unfolding holds_verify holds_correct holds_verify_final holds_vector
+unfolding holds_verify holds_correct holds_verify_final holds_vector with_verify
 verify_changes n l g room = record {
-  keeps_name = λ h. (unfold with_verify in refl);
+  keeps_name = λ h. refl;
   keeps_verify = λ k h. ap (member k) (verify_added l g room) ∙ member_front k (verifies_of l) g h;
-  keeps_correct = λ v h. (unfold with_verify in h);
-  keeps_vote = λ v h. inl (unfold with_verify in h);
+  keeps_correct = λ v h. h;
+  keeps_vote = λ v h. inl h;
   heard = heard;
   here = ap (member g) (verify_added l g room) ∙ member_last (verifies_of l) g;
 }
   where
     heard : (w : Message) → LinkHolds n (with_verify l g) w → LinkHolds n l w ⊎ (w ≡ verify g)
-    heard (announce k) h = inl (unfold with_verify in h)
+    heard (announce k) h = inl h
     heard (verify k) h = elim (member_snoc_cases k (verifies_of l) g (ap (member k) (sym (verify_added l g room)) ∙ h)) [
       | inl e ↦ inl e
       | inr e ↦ inr (ap verify (sym e))
     ]
-    heard (correct_final v) h = inl (unfold with_verify in h)
-    heard (verify_final v) h = inl (unfold with_verify in h)
+    heard (correct_final v) h = inl h
+    heard (verify_final v) h = inl h
 
 -- ---- a vector message replaces what is held, and leaves the rest alone
 vector_cases : (n kind : ℕ) (l : Link) (v : List ℕ) → holds_vector n kind l v ≡ true → (l.held ≡ kind) × (take n l.list ≡ v)
