@@ -16,7 +16,7 @@ loop-i-preserved c =
       omega arith,
       (
         omega (arith, c.put_identifier.auto.0),
-        next_stored s.ids.now s.out-1.now c.loop-i.out-1 _ c.loop-i.i (omega arith) c.loop-i.invariant.1.1 c.put_identifier.ensures,
+        next_stored s.ids.now s.out.now c.loop-i.out _ c.loop-i.i (omega arith) c.loop-i.invariant.1.1 c.put_identifier.ensures,
       ),
     )
 
@@ -25,7 +25,6 @@ shape_of-out c = omega (arith, c.put_four.auto.0)
 
 pub returns : goal.returns
 returns c =
-    let s = c.before.before.before.before.before.before.before.before in
-    let a = s.args in
-    frame_stored a.kind a.size a.ids.now a.out-1.now c.loop-i.out-1 _ c.loop-i.i s.requires.1.0 (omega arith) c.loop-i.invariant.1.1
+    let a = c.args in
+    frame_stored a.kind a.size a.ids.now a.out.now c.loop-i.out _ c.loop-i.i c.requires.1.0 (omega arith) c.loop-i.invariant.1.1
     c.put_four.ensures

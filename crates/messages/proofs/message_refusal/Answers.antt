@@ -9,27 +9,25 @@ use mathlib.Core.Path.{◌≡◌, sym, ◌∙◌}
 use mathlib.Core.Bool.{true}
 use Rattle.messages.proofs.message_refusal.Goals as goal
 
-ids_long : (s : goal.Start) → length s.args.t3 ≡ most_bases
-ids_long s = s.well-formed.1.1.0.1.0.1
-
 pub returns-in_default : goal.returns-in_default
 returns-in_default c = let a = c.args in message_unknown
-    a.n a.kind a.t3 (shape_unknown a.kind a.n (sym c.shape_of.ensures ∙ c.in_default.is))
+    a.n a.kind a.ids (shape_unknown a.kind a.n (sym c.shape_of.ensures ∙ c.in_default.is))
 
 pub returns-then-not-zero_behind : goal.returns-then-not-zero_behind
 returns-then-not-zero_behind c = let a = c.args in let k = shape_known a.kind a.n
     (sym c.shape_of.ensures ∙ c.in-Known.is) in
-    message_behind a.n a.kind a.t3 _ k.0 k.1.0 (sym c.zero_behind.ensures ∙ c.if-not-zero_behind.true)
+    message_behind a.n a.kind a.ids _ k.0 k.1.0 (sym c.zero_behind.ensures ∙ c.if-not-zero_behind.true)
 
 pub slice_bounds-list_refusal-end : goal.slice_bounds-list_refusal-end
-slice_bounds-list_refusal-end c = let s = c.before.before.before.before.before.before.before.before.before in
-    sym (length-take-le _ s.args.t3 (omega (arith, ids_long s, c.least-end.ensures)))
+slice_bounds-list_refusal-end c = let ids_long : length c.args.ids ≡ most_bases = c.well_formed.1.1.0.1.0.1 in
+    sym (length-take-le _ c.args.ids (omega (arith, ids_long, c.least-end.ensures)))
 
 pub returns : goal.returns
-returns c = let z = c.before.before.before.before in let s = z.before.before.before.before.before.before in let a = s.args in
-    let k = shape_known a.kind a.n (sym z.shape_of.ensures
-    ∙ z.in-Known.is) in
-    message_list a.n a.kind a.t3 _ _ k.0 k.1.0
-    (sym z.zero_behind.ensures ∙ c.if-not-zero_behind.false)
+returns c = let ids_long : length c.args.ids ≡ most_bases = c.well_formed.1.1.0.1.0.1 in
+    let a = c.args in
+    let k = shape_known a.kind a.n (sym c.shape_of.ensures
+    ∙ c.in-Known.is) in
+    message_list a.n a.kind a.ids _ _ k.0 k.1.0
+    (sym c.zero_behind.ensures ∙ c.if-not-zero_behind.false)
     (c.list_refusal.ensures
-    ∙ list_within _ z.in-Known.count-1 _ (ids_long s) c.least-end.ensures)
+    ∙ list_within _ c.in-Known.count _ ids_long c.least-end.ensures)

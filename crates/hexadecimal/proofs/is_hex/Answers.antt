@@ -1,0 +1,22 @@
+-- `hexadecimal::is_hex` meets its contract: the tests that led to each return.
+use native.Mathlib.Omega.{arith}
+use borrow.Author.Tests.{le-leb, lt-leb}
+use Rattle.lists.specs.Choice.{and, or}
+use Rattle.hexadecimal.specs.Hex.{is_hex}
+use Rattle.hexadecimal.proofs.is_hex.Goals as goal
+
+pub returns-then-b-lt48 : goal.returns-then-b-lt48
+unfolding is_hex and or
+returns-then-b-lt48 c = rw (lt-leb 48 _ c.if-b-lt48.true, lt-leb 97 c.args.b (omega arith))
+
+pub returns-then-b-le57 : goal.returns-then-b-le57
+unfolding is_hex and or
+returns-then-b-le57 c = rw (le-leb 48 _ c.if-b-lt48.false, le-leb _ 57 c.if-b-le57.true)
+
+pub returns-then-b-lt97 : goal.returns-then-b-lt97
+unfolding is_hex and or
+returns-then-b-lt97 c = rw (le-leb 48 _ c.if-b-lt48.false, lt-leb _ 57 c.if-b-le57.false, lt-leb 97 _ c.if-b-lt97.true)
+
+pub returns : goal.returns
+unfolding is_hex and or
+returns c = rw (le-leb 48 _ c.if-b-lt48.false, lt-leb _ 57 c.if-b-le57.false, le-leb 97 _ c.if-b-lt97.false)
