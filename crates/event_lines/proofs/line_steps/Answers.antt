@@ -11,7 +11,7 @@ use Rattle.net.specs.declared.StoredNet.{StoredNet}
 use Rattle.net.specs.Abstraction.{faulty_of}
 use Rattle.events.specs.Events.{Moved}
 use Rattle.schedule.specs.Walk.{next_line, repeat}
-use Rattle.schedule.specs.Walk.Laws.{repeat_none, repeat_more, repeat_done}
+use Rattle.schedule.proofs.Walk.Laws.{repeat_none, repeat_more, repeat_done}
 use Rattle.stored_walk.specs.State.{most_lines, HasBytes, refused_net, onward_net, line_moved, replaying, line_after}
 use Rattle.stored_walk.specs.State.Laws.{line_stays, line_stopped, line_goes_on, line_after_lem, line_refused, line_onward, found_bytes}
 use Rattle.stored_walk.specs.Reaching.{stored, line_stored}

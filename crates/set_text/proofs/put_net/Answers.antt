@@ -4,7 +4,7 @@ use mathlib.Core.Path.{sym, ◌∙◌}
 use Rattle.print.specs.Put.Laws.{put_as, put_fits}
 use Rattle.schedule.specs.Report.{line_room}
 use Rattle.faulty_sets.specs.Answers.Laws.{sets_told, refused_told}
-use Rattle.set_text.specs.Text.Laws.{net_listed, net_refused, room_is}
+use Rattle.set_text.proofs.Text.Laws.{net_listed, net_refused, room_is}
 use Rattle.set_text.proofs.put_net.Goals as goal
 
 pub put_sets-requires : goal.put_sets-requires

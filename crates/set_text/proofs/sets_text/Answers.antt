@@ -6,7 +6,7 @@ use borrow.Author.Tests.{le-leb, lt-leb}
 use Rattle.print.specs.Put.Laws.{put_as, put_fits, fits_put, not_put}
 use Rattle.schedule.specs.Report.{line_room}
 use Rattle.set_text.specs.Text.{sets_room}
-use Rattle.set_text.specs.Text.Laws.{room_is, line_broken, line_names}
+use Rattle.set_text.proofs.Text.Laws.{room_is, line_broken, line_names}
 use Rattle.set_text.proofs.sets_text.Goals as goal
 
 pub returns-then-out-lt-SETS_ROOM : goal.returns-then-out-lt-SETS_ROOM

@@ -6,7 +6,7 @@ use lib.ListN.{take}
 use Rattle.print.specs.Put.Laws.{put_none, put_as, put_then, text_length}
 use Rattle.faulty_sets.specs.Answers.{no_link_pair}
 use Rattle.set_text.specs.Text.{pair_lines}
-use Rattle.set_text.specs.Text.Laws.{pairs_none, pairs_more}
+use Rattle.set_text.proofs.Text.Laws.{pairs_none, pairs_more}
 use Rattle.set_text.proofs.put.put_pairs.Goals as goal
 
 pub loop-i-init : goal.loop-i-init

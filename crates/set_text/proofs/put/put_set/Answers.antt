@@ -11,7 +11,7 @@ use Rattle.print.specs.Put.{Put}
 use Rattle.print.specs.Put.Laws.{put_fits, put_next, put_as, put_then, step, text_length}
 use Rattle.schedule.specs.Report.{feed}
 use Rattle.set_text.specs.Text.{set_word}
-use Rattle.set_text.specs.Text.Laws.{set_nothing, set_linked}
+use Rattle.set_text.proofs.Text.Laws.{set_nothing, set_linked}
 use Rattle.set_text.proofs.put.put_set.Goals as goal
 
 pub returns-in_default : goal.returns-in_default

@@ -12,7 +12,7 @@ use Rattle.faulty_sets.specs.Answers.{answered_links}
 use Rattle.faulty_sets.specs.Answers.Laws.{set_answered, sets_few}
 use Rattle.faulty_sets.specs.Small.{small_faulty}
 use Rattle.set_text.specs.Text.{set_room, lines_from}
-use Rattle.set_text.specs.Text.Laws.{lines_none, lines_more, room_left}
+use Rattle.set_text.proofs.Text.Laws.{lines_none, lines_more, room_left}
 use Rattle.set_text.proofs.put.put_sets.Goals as goal
 
 pub loop-number-init : goal.loop-number-init
