@@ -25,6 +25,8 @@ SIMPLE = re.compile(r"([\w)»]) \.(?=[\w«])")
 CAMEL = re.compile(r"[a-z][a-z0-9]*[A-Z]\w*$")
 # What the rules here can't write: edit, then its pairs whole.
 BY_HAND = {
+    # the names of goals are of the condition's words, and proof files cite them
+    "frame/any_count": [("src/kind.rt", "    if count != held {", "    let count = held; if count != held {")],
     # today one import has both names of `limits`
     "faulty_sets/seven_bases": [
         ("src/lib.rt", "use limits::{SMALL_BASES, size_refusal};", "use limits::size_refusal; const SMALL_BASES: usize = 7;"),
