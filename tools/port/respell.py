@@ -72,7 +72,7 @@ def tables():
         if path.endswith(".antt") and not is_walk(path):
             declared |= {m.group(1) for m in map(DECLARED.match, text.splitlines()) if m}
             used |= set(TOKEN.findall(without_comments(text)))
-    binders = {n for n in used if n[0].islower() and OLD.search(n)} - declared - library - {"false-name", "not-nil"}  # of the library
+    binders = {n for n in used if n[0].islower() and OLD.search(n)} - declared - library - {"false-name", "not-nil", "obs-res"}  # of the library
     old = {n for n in declared if n[0].islower() and OLD.search(n)} - library
     by_new = collections.defaultdict(set)
     for name in old | {n for n in declared if n[0].islower() and not OLD.search(n)}:

@@ -9,4 +9,4 @@ use Rattle.faulty_links.specs.Faulty.{faulty_room}
 use Rattle.faulty_links.specs.contracts.Faulty as F
 
 pub faulty_sized : (f : Faulty) (vs : List Val) → Is F.the_row f vs → length f.pairs ≡ faulty_room
-faulty_sized f vs p = simp length-map at p.1.1.1.0.1.0.1
+faulty_sized f vs p = p.1.1.1.0.1.0.1

@@ -9,4 +9,4 @@ use Rattle.limits.specs.Limits.{most_bases}
 use Rattle.net.specs.contracts.Header as H
 
 pub header_sized : (h : Header) (vs : List Val) → Is H.the_row h vs → length h.ids ≡ most_bases
-header_sized h vs p = simp length-map at p.1.1.1.1.0.1.0.1
+header_sized h vs p = p.1.1.1.1.0.1.0.1

@@ -14,11 +14,11 @@ use Rattle.node.specs.contracts.Frame as F
 use Rattle.node.specs.contracts.Node as N
 
 pub frame_sized : (f : Frame) (vs : List Val) → Is F.the_row f vs → length f.bytes ≡ longest_frame
-frame_sized f vs p = simp length-map at p.1.1.1.0.1.0.1
+frame_sized f vs p = p.1.1.1.0.1.0.1
 
 pub node_base : (v : Node) (vs : List Val) → Is N.the_row v vs → Sized v.base
 node_base v vs p = base_sized v.base _ p.1.1.0
 
 pub node_sized : (v : Node) (vs : List Val) → Is N.the_row v vs → SizedNode v
 node_sized v vs p =
-    record { frames = simp length-map at p.1.1.1.1.0.1.0.1; heard = simp length-map at p.1.1.1.1.1.0.1.0.1 }
+    record { frames = p.1.1.1.1.0.1.0.1; heard = p.1.1.1.1.1.0.1.0.1 }

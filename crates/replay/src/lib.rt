@@ -1,5 +1,5 @@
-// One call from a schedule's bytes to the report: the state of every base at the end, or the first line that is turned down. C calls it too
-// (include/roster.h): a slice is a pointer and a length there.
+// One call from a schedule's bytes to the report: the state of every base at the end, or the first line that is turned down. C calls it too,
+// by `replay_c`.
 
 #![tactic(auto)]
 
@@ -19,8 +19,7 @@ pub const REPORT_ROOM: usize = (MOST_BASES + 1) * LINE_ROOM;
 
 // The report of a schedule at the front of an output, and its length. An output with less room than any report may take is left
 // alone, and the length is 0.
-#[unsafe(no_mangle)]
-pub extern "C" fn roster_replay(schedule: &[u8], out: &mut [u8]) -> usize
+pub fn roster_replay(schedule: &[u8], out: &mut [u8]) -> usize
     ensures value { result ≡ replay_length schedule.now out.old }
     ensures out_after { out.new ≡ replay_output schedule.now out.old }
     ensures upper_bound { result ≤ length out.old }

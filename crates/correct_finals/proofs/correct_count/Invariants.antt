@@ -6,7 +6,7 @@ use Rattle.protocol.specs.Links.{holds_correct}
 use Rattle.correct_finals.proofs.correct_count.Given as goal
 
 abbrev pub invariant-loop-i : goal.invariant-loop-i
-invariant-loop-i l = Counted l.base (λ l. holds_correct l.base.n l (take l.base.n l.v)) l.k l.i l.count
+invariant-loop-i l = Counted l.base (λ link. holds_correct l.base.n link (take l.base.n l.v)) l.k l.i l.count
 
 abbrev pub decreases-loop-i : goal.decreases-loop-i
 decreases-loop-i l = l.k - l.i

@@ -14,4 +14,4 @@ links_same e f g = cc
 pub returns : goal.returns
 unfolding links_answer
 returns c =
-    links_same (chosen_count c.args.chosen (omega (arith, c.requires))) c.Chosen-at.ensures c.chosen_at-2.ensures
+    links_same (chosen_count c.args.chosen (omega (arith, c.requires))) c.chosen_at.ensures c.chosen_at-2.ensures

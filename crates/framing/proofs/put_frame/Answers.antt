@@ -15,13 +15,13 @@ loop-i-preserved c =
     let s = c.args in (
       omega arith,
       (
-        omega (arith, c.put_identifier.auto.0),
+        omega (arith, c.put_identifier.auto.out),
         next_stored s.ids.now s.out.now c.loop-i.out _ c.loop-i.i (omega arith) c.loop-i.invariant.1.1 c.put_identifier.ensures,
       ),
     )
 
 pub shape_of-out : goal.shape_of-out
-shape_of-out c = omega (arith, c.put_four.auto.0)
+shape_of-out c = omega (arith, c.put_four.auto.out)
 
 pub returns : goal.returns
 returns c =

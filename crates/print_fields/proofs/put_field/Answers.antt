@@ -47,5 +47,5 @@ returns-then-not-has_room c = let both = let a = c.args in
 pub returns : goal.returns
 returns c = let both = let a = c.args in
     field a.out.now a.label.now _ a.at a.v _ c.decimal-digits.ensures
-    (sym c.has_room.ensures ∙ c.if-not-has_room.false) c.put_text-end.ensures
-    c.put_text.ensures in record { value = both.0; out_after = both.1 }
+    (sym c.has_room.ensures ∙ c.if-not-has_room.false) (c.put_text-end.ensures.value, c.put_text-end.ensures.out_after)
+    (c.put_text.ensures.value, c.put_text.ensures.out_after) in record { value = both.0; out_after = both.1 }

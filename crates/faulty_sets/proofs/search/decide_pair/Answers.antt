@@ -29,22 +29,16 @@ pair_at-requires c = let left : c.args.search.place < pair_count c.args.n = plac
     (c.requires.le_n.0, c.requires.le_n.1, omega (arith, left, pairs_counted c.args.n))
 
 pub returns-then-number-with : goal.returns-then-number-with
-returns-then-number-with c = let both = let counted : c.choices-with.result ≡ choices (pair_count c.args.n - (c.args.search.place + 1)) (c.args.search.wanted - 1) = let search = c.args.search in c.choices-with.ensures ∙ ap (λ (m : ℕ). choices (m - (search.place + 1)) (search.wanted - 1)) c.pair_count.ensures in
+returns-then-number-with c = let counted : c.choices-with.result ≡ choices (pair_count c.args.n - (c.args.search.place + 1)) (c.args.search.wanted - 1) = let search = c.args.search in c.choices-with.ensures ∙ ap (λ (m : ℕ). choices (m - (search.place + 1)) (search.wanted - 1)) c.pair_count.ensures in
     let e = counted in
     let less = c.if-number-with.true in
     let pair = c.pair_at.ensures in
-    let after = c.with_pair.ensures in (
-      (taken_sought c.args.n c.args.search c.requires.searching c.requires.le_n.2 e less pair after, refl),
-      taken_searching c.args.n c.args.search c.requires.searching c.requires.le_n.2 e less pair after,
-    ) in record { result_value = both.0; searching_2 = both.1 }
+    let after = c.with_pair.ensures in record { result_value = (taken_sought c.args.n c.args.search c.requires.searching c.requires.le_n.2 e less pair after, refl); searching_2 = taken_searching c.args.n c.args.search c.requires.searching c.requires.le_n.2 e less pair after }
 
 pub overflow_add-result-2 : goal.overflow_add-result-2
 overflow_add-result-2 c = let left : c.args.search.place < pair_count c.args.n = place_left c.args.n c.args.search c.requires.searching c.requires.le_n.2 in
     omega (arith, left, pairs_few c.args.n c.requires.le_n.1)
 
 pub returns : goal.returns
-returns c = let both = let counted : c.choices-with.result ≡ choices (pair_count c.args.n - (c.args.search.place + 1)) (c.args.search.wanted - 1) = let search = c.args.search in c.choices-with.ensures ∙ ap (λ (m : ℕ). choices (m - (search.place + 1)) (search.wanted - 1)) c.pair_count.ensures in
-    let e = counted in (
-      (passed_sought c.args.n c.args.search c.requires.searching c.requires.le_n.2 e c.if-number-with.false, refl),
-      passed_searching c.args.n c.args.search c.requires.searching c.requires.le_n.2 e c.if-number-with.false,
-    ) in record { result_value = both.0; searching_2 = both.1 }
+returns c = let counted : c.choices-with.result ≡ choices (pair_count c.args.n - (c.args.search.place + 1)) (c.args.search.wanted - 1) = let search = c.args.search in c.choices-with.ensures ∙ ap (λ (m : ℕ). choices (m - (search.place + 1)) (search.wanted - 1)) c.pair_count.ensures in
+    let e = counted in record { result_value = (passed_sought c.args.n c.args.search c.requires.searching c.requires.le_n.2 e c.if-number-with.false, refl); searching_2 = passed_searching c.args.n c.args.search c.requires.searching c.requires.le_n.2 e c.if-number-with.false }

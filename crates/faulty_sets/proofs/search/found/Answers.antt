@@ -12,7 +12,7 @@ loop-search-init c = (refl, record { there = c.requires.3; room = omega arith; s
 
 pub decide_pair-search-requires : goal.decide_pair-search-requires
 decide_pair-search-requires c =
-    ((c.requires.0, c.requires.1, c.loop-search-test.true), c.loop-search.invariant.1)
+    record { le_n = (c.requires.0, c.requires.1, c.loop-search-test.true); searching = c.loop-search.invariant.1 }
 
 pub loop-search-smaller : goal.loop-search-smaller
 loop-search-smaller c =
