@@ -1,4 +1,4 @@
 pub mod Histories
 pub mod Lines
-pub mod Proof
+pub mod Agrees
 pub mod States
