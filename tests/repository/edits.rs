@@ -134,7 +134,7 @@ mod tests {
             let point = format!(": ./specs/Lists.antt:49:36: error: {what}");
             assert_eq!(of(&format!("{refused}{point}")), Some(format!("is refused by a misfit{point}")));
         }
-        let names = " (only because a proof file names what the edit took away, so this says little of the contract: ..): ./proofs/f/Answers.antt:1:1";
+        let names = " (only because a proof file names what the edit took away, so this says little): ./proofs/f/Answers.antt:1:1";
         assert_eq!(of(&format!("{refused}{names}")), Some(format!("is refused by a misfit{names}")));
         assert_eq!(
             of("NOT REFUSED: the crate is still proved"),
