@@ -1,7 +1,7 @@
 #!/usr/bin/env python3
 """Brings the names of this repository's definitions, lemmas, fields and constructors to snake case, behind the kit's port.py, which
-respells only some. Run once, at the top. Types and facts keep their capitals, functions of src/, exported names and strings theirs. A lemma whose
-name falls together with that of a definition gets `_lem` at its end. The names, old and new, go to tools/port/names.tsv.
+respells only some. Run once, at the top. Types and facts keep their capitals, functions of src/, exported names and strings theirs. A lemma
+whose name falls together with that of a definition gets `_lem` at its end. The names, old and new, go to tools/port/names.tsv.
 
 usage: respell.py            in crates/: specs/, proofs/ and the clauses of src/
        respell.py pages      in README.md, docs/ and must-fail/, by names.tsv: words in backquotes, and the lines of an edit
