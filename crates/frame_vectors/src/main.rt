@@ -10,13 +10,21 @@ mod line;
 mod show;
 
 use crate::line::{count, small};
+use input::failure::say_failed;
+use input::{Input, read_input};
 use line_fields::line::{field, line_at};
 use parts::{part, plus};
 
-fn main() {
+fn main(rt: HostRuntime) {
     let mut text = io::large_buffer();
-    let len = io::read_full(0, &mut text);
-    all(part(&text, 0, len));
+    match read_input(&mut rt.stdin(), &mut text) {
+        Input::Failed(why) => say_failed(
+            &rt.stderr(),
+            b"frame_vectors: reading standard input",
+            why,
+        ),
+        Input::Read(length) => all(part(&text, 0, length)),
+    }
 }
 
 fn all(text: &[u8]) {

@@ -1,7 +1,6 @@
 // What a call answers, a line each.
-use libc::STDOUT_FILENO;
 use message_text::say::each_identifier;
-use output::{number, text, with_numbers};
+use output::{STDOUT_FILENO, number, text, with_numbers};
 use reader::Reading;
 use writer::Written;
 

@@ -4,36 +4,40 @@
 #![tactic(auto)]
 
 use input::arguments::no_argument;
+use input::failure::say_failed;
 use input::{Input, read_input};
-use libc::STDOUT_FILENO;
 use limits::LONGEST_SCHEDULE;
 use parts::part;
 use replay::{REPORT_ROOM, roster_replay};
+use std::io;
 
-// Whether the report is written.
-fn report(schedule: &[u8]) -> bool {
+// Writes the report.
+fn report(out: &impl Print, schedule: &[u8]) -> io::Result<()> {
     let mut report = [0u8; REPORT_ROOM];
     let end = roster_replay(schedule, &mut report);
-    io::write_all(STDOUT_FILENO, part(&report, 0, end))
+    out.write_all(part(&report, 0, end))
 }
 
-fn replay_input() {
+fn replay_input(rt: HostRuntime) {
     // One byte more than a schedule may have, so that a longer one is seen.
     let mut schedule = [0u8; LONGEST_SCHEDULE + 1];
-    let Input::Read(length) = read_input(&mut schedule) else {
-        os::fail(b"hillreplay: reading standard input");
-        return;
-    };
-    if !report(part(&schedule, 0, length)) {
-        os::fail(b"hillreplay: writing standard output");
+    match read_input(&mut rt.stdin(), &mut schedule) {
+        Input::Failed(why) => say_failed(&rt.stderr(), b"hillreplay: reading standard input", why),
+        Input::Read(length) => {
+            if let Err(why) = report(&rt, part(&schedule, 0, length)) {
+                say_failed(&rt.stderr(), b"hillreplay: writing standard output", why);
+            }
+        }
     }
 }
 
-fn main() {
+fn main(rt: HostRuntime) {
     if no_argument(
+        &rt,
+        &rt.stderr(),
         b"usage: hillreplay < SCHEDULE    prints the report of the schedule; hilltrace < SCHEDULE says why a line is refused\n",
         b"hillreplay: no argument is taken; the schedule is read from standard input; hilltrace says why a line is refused\n",
     ) {
-        replay_input();
+        replay_input(rt);
     }
 }

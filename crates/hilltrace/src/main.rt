@@ -4,42 +4,44 @@
 #![tactic(auto)]
 
 use input::arguments::no_argument;
+use input::failure::say_failed;
 use input::{Input, read_input};
-use libc::STDOUT_FILENO;
 use limits::LONGEST_SCHEDULE;
 use parts::part;
 use replay::{REPORT_ROOM, roster_replay};
 use schedule_trace::show;
+use std::io;
 
-// Whether the report is written.
-fn closing_report(schedule: &[u8]) -> bool {
+// Writes the report.
+fn closing_report(out: &impl Print, schedule: &[u8]) -> io::Result<()> {
     let mut report = [0u8; REPORT_ROOM];
     let end = roster_replay(schedule, &mut report);
-    io::write_all(STDOUT_FILENO, part(&report, 0, end))
+    out.write_all(part(&report, 0, end))
 }
 
-fn trace(schedule: &[u8]) {
+fn trace(rt: HostRuntime, schedule: &[u8]) {
     show(schedule);
-    if !closing_report(schedule) {
-        os::fail(b"hilltrace: writing standard output");
+    if let Err(why) = closing_report(&rt, schedule) {
+        say_failed(&rt.stderr(), b"hilltrace: writing standard output", why);
     }
 }
 
-fn trace_input() {
+fn trace_input(rt: HostRuntime) {
     // One byte more than a schedule may have, so that a longer one is seen.
     let mut schedule = [0u8; LONGEST_SCHEDULE + 1];
-    let Input::Read(length) = read_input(&mut schedule) else {
-        os::fail(b"hilltrace: reading standard input");
-        return;
-    };
-    trace(part(&schedule, 0, length));
+    match read_input(&mut rt.stdin(), &mut schedule) {
+        Input::Failed(why) => say_failed(&rt.stderr(), b"hilltrace: reading standard input", why),
+        Input::Read(length) => trace(rt, part(&schedule, 0, length)),
+    }
 }
 
-fn main() {
+fn main(rt: HostRuntime) {
     if no_argument(
+        &rt,
+        &rt.stderr(),
         b"usage: hilltrace < SCHEDULE    prints what each line of the schedule did, then the report\n",
         b"hilltrace: no argument is taken; the schedule is read from standard input; --help says more\n",
     ) {
-        trace_input();
+        trace_input(rt);
     }
 }

@@ -5,5 +5,5 @@ use Rattle.input.specs.declared.Input.TheVariants.{Read, Failed}
 
 -- no more bytes than the buffer has
 abbrev pub ReadWithin : ℕ → Input → Type 0
-ReadWithin room Failed = Unit {0}
+ReadWithin room (Failed _) = Unit {0}
 ReadWithin room (Read count) = count ≤ room

@@ -1,16 +1,25 @@
 // What a program is called with.
-use libc::{STDERR_FILENO, STDOUT_FILENO};
+use std::env::{Env, FillError};
 use words::{Word, word_at};
 
 const HELP: usize = 6;
 
+// Whether there is an argument of a number; number 0 is the program's name. There is no room for it here, and it is not wanted.
+fn is_given(rt: &impl Env, i: usize) -> bool {
+    match rt.arg(i, &mut []) {
+        Ok(_) => true,
+        Err(FillError::TooLong) => true,
+        Err(FillError::NotPresent) => false,
+    }
+}
+
 // Whether the one argument is `--help`.
-fn asks_help() -> bool {
-    if os::arg_count() != 2 {
+fn asks_help(rt: &impl Env) -> bool {
+    if is_given(rt, 2) {
         return false;
     }
     let mut word = [0u8; HELP];
-    if os::arg(1, &mut word) != HELP {
+    if rt.arg(1, &mut word).unwrap_or(0) != HELP {
         return false;
     }
     if let Word::Past(_) = word_at(&word, 0, b"--help") {
@@ -20,15 +29,20 @@ fn asks_help() -> bool {
 }
 
 // Whether a program is called with no argument. Where it is called for help its usage is printed, and with anything else it is said that
-// none is taken.
-pub fn no_argument(usage: &[u8], none_taken: &[u8]) -> bool {
-    if asks_help() {
-        io::write_all(STDOUT_FILENO, usage);
+// none is taken. Where that cannot be written, there is nobody left to tell.
+pub fn no_argument(
+    rt: &(impl Env + Print),
+    errors: &impl Print,
+    usage: &[u8],
+    none_taken: &[u8],
+) -> bool {
+    if asks_help(rt) {
+        let _ = rt.write_all(usage);
         return false;
     }
-    if os::arg_count() < 2 {
+    if !is_given(rt, 1) {
         return true;
     }
-    io::write_all(STDERR_FILENO, none_taken);
+    let _ = errors.write_all(none_taken);
     false
 }

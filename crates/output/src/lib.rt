@@ -2,8 +2,10 @@
 
 #![tactic(auto)]
 
-use libc::STDOUT_FILENO;
 use parts::{between, part, plus, prints};
+
+// The number of standard output, by which the kit's io writes.
+pub const STDOUT_FILENO: i32 = 1;
 
 pub fn text(words: &[u8]) {
     io::write_all(STDOUT_FILENO, words);

@@ -1,6 +1,5 @@
 -- No more lines are tried than there are bytes.
-use Prim.Native.Nat.{◌≤◌, ◌-◌}
-use lib.ListN.{length}
+use Rattle.std.specs.Prelude.{◌≤◌, ◌-◌, length}
 use Rattle.frame_vectors.proofs.all.Given as goal
 
 abbrev pub invariant-loop-k : goal.invariant-loop-k

@@ -5,7 +5,7 @@ use lib.ListN.{length}
 use Rattle.input.proofs.read_input.Given as goal
 
 abbrev pub invariant-loop-turns : goal.invariant-loop-turns
-invariant-loop-turns l = (l.turns ≤ length l.buffer) × ((l.done ≤ length l.buffer) × (length l.buffer ≡ length l.initial.buffer))
+invariant-loop-turns g l = (l.turns ≤ length l.buffer) × ((l.done ≤ length l.buffer) × (length l.buffer ≡ length l.initial.buffer))
 
 abbrev pub decreases-loop-turns : goal.decreases-loop-turns
-decreases-loop-turns l = length l.initial.buffer - l.turns
+decreases-loop-turns g l = length l.initial.buffer - l.turns

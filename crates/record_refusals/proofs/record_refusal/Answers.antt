@@ -11,10 +11,10 @@ returns-then-setting-ne0 c = let e = c.setting_refusal-setting.ensures in e ∙ 
 
 pub returns-then-not-is_sound : goal.returns-then-not-is_sound
 unfolding record_refusal
-returns-then-not-is_sound c = chosen_yes _ (ap not (sym c.is_sound.ensures) ∙ c.if-not-is_sound.true) refl
+returns-then-not-is_sound c = chosen_yes _ (ap not (sym c.is_sound.ensures ∙ c.if-not-is_sound.true)) refl
     ∙ sym (first_none _ (sym c.setting_refusal-setting.ensures ∙ c.if-setting-ne0.false))
 
 pub returns : goal.returns
 unfolding record_refusal
-returns c = chosen_no _ (ap not (sym c.is_sound.ensures) ∙ c.if-not-is_sound.false) refl
+returns c = chosen_no _ (ap not (sym c.is_sound.ensures ∙ c.if-not-is_sound.false)) refl
     ∙ sym (first_none _ (sym c.setting_refusal-setting.ensures ∙ c.if-setting-ne0.false))

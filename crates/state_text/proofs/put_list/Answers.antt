@@ -29,7 +29,7 @@ loop-i-preserved c =
       omega (arith, less),
       (
         omega (arith, few, I.1.0, step (field_text (space ∷ []) v) I.1.1.1 P),
-        (c.put_field-end.auto.0 ∙ I.1.1.0, put_as (list_more _ _ less) P),
+        (c.put_field-end.auto.out ∙ I.1.1.0, put_as (list_more _ _ less) P),
       ),
     )
 

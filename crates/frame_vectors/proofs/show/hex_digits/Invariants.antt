@@ -1,6 +1,5 @@
 -- The loop stays within the slice.
-use Prim.Native.Nat.{◌≤◌, ◌-◌}
-use lib.ListN.{length}
+use Rattle.std.specs.Prelude.{◌≤◌, ◌-◌, length}
 use Rattle.frame_vectors.proofs.show.hex_digits.Given as goal
 
 abbrev pub invariant-loop-i : goal.invariant-loop-i

@@ -1,5 +1,5 @@
 -- `header::mark_faulty` meets its contract: the line is turned down by the number of its link, or the link is faulty.
-use borrow.Author.Rules.{rules}
+-- 13 before the number that is left
 use Prim.Native.Nat.{ℕ}
 use mathlib.Core.Path.{◌≡◌, refl, sym, ap, ◌∙◌}
 use mathlib.Core.Bool.{Bool, true, false}
@@ -18,10 +18,8 @@ use Rattle.schedule.specs.Walk.{judged, mark_step}
 use Rattle.stored_walk.specs.State.{onward_header, refused_net, replaying}
 use Rattle.stored_walk.specs.State.Begun.{marked_onward}
 use Rattle.stored_walk.specs.State.Laws.{judged_refused, judged_onward}
-use Rattle.header.proofs.mark_faulty.Statement.{statement}
-use Rattle.header.proofs.mark_faulty.Tie as tie
+use Rattle.header.proofs.mark_faulty.Goals as goal
 
--- 13 before the number that is left
 either : (again : Bool) (k : ℕ) (p q : StoredNet)
     → judged replaying (choose again 13 k) p q ≡ choose again (refused_net 13 p) (judged replaying k p q)
 unfolding judged choose
@@ -50,21 +48,12 @@ module _ (h : Header) (a b next : ℕ) {named : FaultyNamed} (e : named ≡ faul
       (ap begun_net (q ∙ ap (λ (f : Faulty). onward_header h h.ids f next) (marked none)) ∙ marked_onward h a b next)
       ∙ either _ _ _ _
 
-name-faulty-requires : tie.Need-name-faulty-requires
-name-faulty-requires c κs = search rules
+pub returns-then-named-ne0 : goal.returns-then-named-ne0
+returns-then-named-ne0 c = turned_down _ _ _ _ c.name_faulty-named.ensures c.if-named-ne0.true c.refuse.ensures
 
-refuse-requires : tie.Need-refuse-requires
-refuse-requires c κs = search rules
+pub onward-requires : goal.onward-requires
+onward-requires c = c.requires
 
-returns : tie.Need-returns
-returns c = turned_down _ _ _ _ c.before.before.before.name-faulty.ensures c.before.if1.true c.refuse.ensures
-
-onward-requires : tie.Need-onward-requires
-onward-requires c κs = c.before.before.before.before.before.requires
-
-returns-2 : tie.Need-returns-2
-returns-2 c = goes_on _ _ _ _ c.before.before.before.before.before.name-faulty.ensures
-    c.before.before.before.if1.false c.onward.ensures
-
-pub mark-faulty-spec : {M : Type 1} → statement M
-mark-faulty-spec = tie.close (tie.spec name-faulty-requires refuse-requires returns onward-requires returns-2)
+pub returns : goal.returns
+returns c = goes_on _ _ _ _ c.name_faulty-named.ensures
+    c.if-named-ne0.false c.onward.ensures
