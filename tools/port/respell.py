@@ -48,7 +48,7 @@ def write(path, text):
 
 
 def is_walk(path):
-    return path.endswith("Proof.antt")
+    return "/proofs/" in path and path.endswith("Proof.antt")
 
 
 def snake(name):

@@ -9,8 +9,8 @@ use Rattle.lists.specs.Lists.Laws.{pad_next, pad_front}
 use Rattle.protocol.specs.declared.Base.{Base}
 use Rattle.protocol.specs.Links.{announces}
 use Rattle.protocol.specs.Record.{link_at, link_count, announced, certified}
-use Rattle.protocol.specs.Record.Laws.{link_room}
-use Rattle.protocol.specs.Record.Announced.{announced_next, announced_skip, length_announced}
+use Rattle.protocol.proofs.Record.Laws.{link_room}
+use Rattle.protocol.proofs.Record.Announced.{announced_next, announced_skip, length_announced}
 use Rattle.certified.specs.declared.List as declared
 
 -- a list in its array, zeros behind, and its length

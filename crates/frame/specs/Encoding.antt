@@ -4,7 +4,6 @@
 use Rattle.std.specs.Prelude.{List, [], ◌∷◌, ◌++◌, ℕ, ◌+◌, ◌/◌, ◌%◌, length, drop}
 use Rattle.limits.specs.Limits.{frame_bytes}
 use Rattle.frame.specs.Message.{Message, kind_of, ids_of}
-pub mod Laws
 
 unfoldable pub two_bytes : ℕ → List ℕ
 two_bytes x = x / 256 % 256 ∷ (x % 256 ∷ [])

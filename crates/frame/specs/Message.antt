@@ -5,7 +5,6 @@ use Rattle.lists.specs.Lists.{nonzero, ascending, Below}
 use Rattle.limits.specs.Limits.{frame_bytes}
 use Rattle.frame.specs.declared.kind.Shape.{Shape}
 use Rattle.frame.specs.declared.kind.Shape.TheVariants.{Known, Unknown}
-pub mod Laws
 
 -- "Kinds: 1 Announce-ID, 2 Verify-ID, 3 Correct-Final, 4 Verify-Final."
 pub data Message : Type 0 where

@@ -6,7 +6,6 @@ use Rattle.lists.specs.Choice.{choose, or, first}
 use Rattle.lists.specs.Lists.{nonzero, ascending}
 use Rattle.frame.specs.Message.{Message, announce, verify, correct_final, verify_final, known, expected}
 pub mod Laws
-pub mod Theorems
 
 -- ---- the trailer, "read from the end"
 -- the k-th byte from the end

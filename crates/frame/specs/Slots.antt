@@ -4,7 +4,6 @@ use Rattle.limits.specs.Limits.{frame_slots}
 use Rattle.frame.specs.declared.size.FrameSize.{FrameSize}
 use Rattle.frame.specs.Message.{Message}
 use Rattle.frame.specs.Encoding.{encode}
-pub mod Laws
 
 -- a frame's length, and its slots beside it
 abbrev pub size_of : ℕ → FrameSize

@@ -8,7 +8,7 @@ use lib.ListN.{length, take, drop, get_or, set}
 use lib.Seq.{sets-eq, take-suc, take-length, length-take-le}
 use Rattle.limits.specs.Limits.{frame_bytes}
 use Rattle.frame.specs.Encoding.{two_bytes, four_bytes, body, trailer, frame_of, over}
-use Rattle.frame.specs.Encoding.Laws.{length_body, body_snoc, over_then}
+use Rattle.frame.proofs.Encoding.Laws.{length_body, body_snoc, over_then}
 
 pub four_stored : (l : List ℕ) (i a b c d : ℕ) → i + 4 ≤ length l
     → set (set (set (set l i a) (i + 1) b) (i + 2) c) (i + 3) d ≡ take i l ++ ((a ∷ (b ∷ (c ∷ (d ∷ [])))) ++ drop (i + 4) l)

@@ -1,7 +1,5 @@
 -- How many sets there are, by a formula.
 use Rattle.std.specs.Prelude.{ℕ, zero, suc, ◌+◌, ◌*◌, ◌-◌, ◌/◌}
-pub mod Laws
-pub mod Sizes
 
 -- the pairs of n bases
 abbrev pub pair_count : ℕ → ℕ

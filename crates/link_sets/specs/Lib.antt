@@ -2,4 +2,3 @@ pub mod Pairs
 pub mod Sets
 pub mod Count
 pub mod Statement
-pub mod Theorem

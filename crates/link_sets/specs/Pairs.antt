@@ -1,7 +1,6 @@
 -- The links of a net, each by the pair of its bases, in order (document 02, request 1: "pairs go by first base, then second").
 use Rattle.std.specs.Prelude.{ℕ, zero, suc, List, [], ◌∷◌, ◌++◌}
 use Rattle.link_sets.specs.declared.LinkPair.{LinkPair}
-pub mod Laws
 
 -- base a with so many bases, from b on
 unfoldable pub pairs_of_base : ℕ → ℕ → ℕ → List LinkPair

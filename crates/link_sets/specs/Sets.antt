@@ -3,7 +3,6 @@
 use Rattle.std.specs.Prelude.{ℕ, zero, suc, List, [], ◌∷◌, ◌++◌, map, get_or}
 use Rattle.link_sets.specs.declared.LinkPair.{LinkPair}
 use Rattle.link_sets.specs.Pairs.{net_pairs}
-pub mod Laws
 
 -- the sets of k of a list: those with its first in front, then those without it
 unfoldable pub sets_of : {A : Type 0} → ℕ → List A → List (List A)

@@ -17,9 +17,9 @@ use Rattle.counting.specs.Sums.{bit}
 use Rattle.counting.specs.Counts.{bit_yes}
 use Rattle.protocol.specs.declared.Link.{Link}
 use Rattle.protocol.specs.Links.{announces, verifies_of, used}
-use Rattle.protocol.specs.Links.Laws.{announces_none}
+use Rattle.protocol.proofs.Links.Laws.{announces_none}
 use Rattle.protocol.specs.Sound.{held_sound, link_empty, link_sound, place_sound}
-use Rattle.protocol.specs.Sound.Laws.{EmptyParts, empty_parts, link_parts, parts_link, held_none, place_used, place_unused}
+use Rattle.protocol.proofs.Sound.Laws.{EmptyParts, empty_parts, link_parts, parts_link, held_none, place_used, place_unused}
 
 -- ---- an empty link
 used_none : (l : Link) → EmptyParts l → used l ≡ 0

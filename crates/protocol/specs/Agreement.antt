@@ -15,27 +15,11 @@ use Rattle.protocol.specs.Steps.{leader_of, link_refusal, output_refusal}
 use Rattle.protocol.specs.Numbering.{link_to}
 use Rattle.protocol.specs.Net.{Net, Pair, Event, starts, carry, forge, broadcast, call, event_refusal, call_refusal, run}
 use Rattle.protocol.specs.Net.{started, has_stopped, waiting, leader_named}
-pub mod Cases
 pub mod Views
-pub mod Suspects
 pub mod Calls
 pub mod Growth
 pub mod Invariant
-pub mod Prime
-pub mod Secondary
-pub mod NetSteps
-pub mod Kept
-pub mod Liveness
-pub mod Storing
-pub mod Accepting
-pub mod Starting
-pub mod Observers
-pub mod Inner
-pub mod Outer
-pub mod Theorem
-pub mod Besides
 pub mod Premise
-pub mod Longer
 
 -- ---- what is given
 -- b is one of the bases 1 to n

@@ -9,9 +9,7 @@ use Rattle.frame.specs.Slots.{slots_of}
 use Rattle.protocol.specs.declared.Base.{Base}
 use Rattle.protocol.specs.Record.{link_at, link_count, announced}
 use Rattle.protocol.specs.Sound.{idle, stopped}
-pub mod Laws
 pub mod Statement
-pub mod Theorem
 
 -- "own (Announce, Verify of the own identifier, Correct-Final) and relayed (the rest)", at a base with that identifier
 unfoldable pub is_own : ℕ → Message → Bool

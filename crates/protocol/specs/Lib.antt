@@ -5,6 +5,5 @@ pub mod Steps
 pub mod Airtime
 pub mod Numbering
 pub mod Net
-pub mod Computed
 pub mod Table
 pub mod Agreement

@@ -4,7 +4,6 @@ use Rattle.lists.specs.Choice.{and, or}
 use Rattle.lists.specs.Lists.{member, same_list}
 use Rattle.counting.specs.Sums.{bit}
 use Rattle.protocol.specs.declared.Link.{Link}
-pub mod Laws
 
 -- the link that is read past the end of an array
 abbrev pub no_link : Link

@@ -2,7 +2,6 @@
 -- to base k + 1." (document 01, "The net and its words")
 use Rattle.std.specs.Prelude.{ℕ, ◌+◌, ◌-◌, ltb}
 use Rattle.lists.specs.Choice.{choose}
-pub mod Laws
 
 -- the base at the end of link k of base b
 unfoldable pub base_at : ℕ → ℕ → ℕ

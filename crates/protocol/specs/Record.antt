@@ -8,8 +8,6 @@ use Rattle.protocol.specs.declared.Link.{Link}
 use Rattle.protocol.specs.declared.Base.{Base}
 use Rattle.protocol.specs.Links.{no_link, announces, holds_verify, holds_correct, holds_list}
 pub mod Memory
-pub mod Laws
-pub mod Announced
 
 unfoldable pub link_at : Base → ℕ → Link
 link_at b i = get_or b.links i no_link

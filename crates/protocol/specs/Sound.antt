@@ -9,11 +9,6 @@ use Rattle.protocol.specs.declared.Link.{Link}
 use Rattle.protocol.specs.declared.Base.{Base}
 use Rattle.protocol.specs.Links.{verifies_of, used}
 use Rattle.protocol.specs.Record.{link_at, certified}
-pub mod Laws
-pub mod Idle
-pub mod Changes
-pub mod Running
-pub mod Kept
 
 -- n identifiers as kinds 3 and 4 demand, and "unused places zero"
 unfoldable pub list_sound : ℕ → List ℕ → Bool

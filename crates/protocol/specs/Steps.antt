@@ -17,20 +17,7 @@ use Rattle.protocol.specs.Links.{announces, holds_verify, full}
 use Rattle.protocol.specs.Record.{link_at, certified, tally_sum, suspects, list_tally, correct_count, final_list}
 use Rattle.protocol.specs.Sound.{idle, stopped, record_refusal}
 pub mod Cases
-pub mod Refusals
-pub mod Laws
-pub mod Checks
-pub mod Certified
-pub mod Decided
-pub mod Memory
-pub mod Sizes
-pub mod First
-pub mod Output
-pub mod Answers
-pub mod Broadcasts
 pub mod Calls
-pub mod Life
-pub mod Leading
 
 -- "Its answer is accepted or discarded", or the call is turned down by a number
 pub data Answer : Type 0 where

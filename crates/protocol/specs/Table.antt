@@ -12,7 +12,6 @@ use Rattle.protocol.specs.declared.Base.{Base}
 use Rattle.protocol.specs.Record.{tally_sum, suspects, list_tally, final_list}
 use Rattle.protocol.specs.Sound.{empty_link}
 use Rattle.protocol.specs.Steps.{Answer, accepted, discarded, refused, Done, arrival}
-pub mod Theorem
 
 -- ---- records to begin with
 -- a link with an Announce and Verifies

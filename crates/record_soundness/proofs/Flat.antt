@@ -15,7 +15,7 @@ use Rattle.counting.specs.Sums.Bounds.{all_each}
 use Rattle.protocol.specs.declared.Base.{Base}
 use Rattle.protocol.specs.Record.{link_at}
 use Rattle.protocol.specs.Sound.{place_sound, links_sound, links_empty, idle, announces_sound, final_sound, idle_sound, sound}
-use Rattle.protocol.specs.Sound.Laws.{place_unused}
+use Rattle.protocol.proofs.Sound.Laws.{place_unused}
 use Rattle.link_soundness.proofs.Empty.{empty_place}
 
 module _ (b : Base) where

@@ -6,11 +6,8 @@ use Rattle.protocol.specs.Net.{Net, Pair, good, event_refusal, happens, replaced
 use Rattle.protocol.specs.Agreement.Premise.{idle_net}
 use Rattle.schedule.specs.Header.{id_refusal, faulty_refusal}
 use Rattle.schedule.specs.Walk.{Walkable, header_walk, lines_walk, walk}
-pub mod Laws
 pub mod Begins
-pub mod Continues
 pub mod Effects
-pub mod Whole
 
 -- how far a schedule has been read
 pub record Progress : Type 0 where

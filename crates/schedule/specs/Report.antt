@@ -10,7 +10,6 @@ use Rattle.protocol.specs.Record.{final_list}
 use Rattle.protocol.specs.Steps.{leader_of}
 use Rattle.protocol.specs.Net.{Net, waiting}
 use Rattle.schedule.specs.Meaning.{Progress, meaning}
-pub mod Laws
 
 -- ---- the states of a base: "idle (0), running (1), prime (2) or secondary (3)"
 abbrev pub idle_state : ℕ

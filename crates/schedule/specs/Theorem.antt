@@ -22,10 +22,6 @@ use Rattle.schedule.specs.Report.{
   refused_line,
   report,
 }
-pub mod Histories
-pub mod States
-pub mod Lines
-pub mod Proof
 
 -- ---- the lines of a text, each without its line feed
 unfoldable pub on_first_line : ℕ → List (List ℕ) → List (List ℕ)

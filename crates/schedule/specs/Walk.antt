@@ -10,7 +10,6 @@ use Rattle.lines.specs.declared.event.Line.{Line}
 use Rattle.lines.specs.declared.event.Line.TheVariants.{Start, Carry, Forge, Wrong}
 use Rattle.lines.specs.Lines.{after_number, after_two, net_line, id_line, faulty_line, event_line}
 use Rattle.protocol.specs.Net.{Event, starts, carry, forge}
-pub mod Laws
 
 -- what a walk asks of that which it keeps, and does to it
 pub record Walkable (P : Type 0) : Type 0 where

@@ -11,7 +11,6 @@ use Rattle.faulty_sets.specs.Small.{small_faulty}
 use Rattle.lines.specs.Lines.{space, faulty_word, after_two, net_line}
 use Rattle.print.specs.Decimal.{most_digits, field_text}
 use Rattle.schedule.specs.Report.{feed, number_digits, refused_line}
-pub mod Laws
 
 -- ---- a set
 -- `set `

@@ -11,8 +11,8 @@ use Rattle.protocol.specs.declared.Outcome.TheVariants.{Accepted}
 use Rattle.protocol.specs.Sound.{idle, record_refusal}
 use Rattle.protocol.specs.Steps.{refuses, discards, accepts, with_state, begins, start_step, output_refusal, start}
 use Rattle.protocol.specs.Steps.{outcome_with, outcome_of, output_of}
-use Rattle.protocol.specs.Airtime.Laws.{start_alone}
-use Rattle.protocol.specs.Steps.Refusals.{unless_passed, unless_refused_lem, output_passed}
+use Rattle.protocol.proofs.Airtime.Laws.{start_alone}
+use Rattle.protocol.proofs.Steps.Refusals.{unless_passed, unless_refused_lem, output_passed}
 use Rattle.change.specs.declared.Change.{Change}
 use Rattle.change.specs.Change.{changed_base, Does}
 use Rattle.start_frames.specs.declared.StartSizes.{StartSizes}

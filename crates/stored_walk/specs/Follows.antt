@@ -38,11 +38,11 @@ use Rattle.schedule.specs.Meaning.{
   whole_schedule,
   meaning,
 }
-use Rattle.schedule.specs.Walk.Laws.{Unrefused}
-use Rattle.schedule.specs.Meaning.Laws.{judged_ind}
-use Rattle.schedule.specs.Meaning.Begins.{Whole, faulty_passed, faulty_begins, header_begins, ids_whole, begins_setting, begins_fresh}
-use Rattle.schedule.specs.Meaning.Continues.{Continues, lines_continue, lines_unrefused, whole_continues, header_unrefused, meaning_whole}
-use Rattle.schedule.specs.Simulation.{Invariants, Simulates, both, header_simulated, walk_simulated}
+use Rattle.schedule.proofs.Walk.Laws.{Unrefused}
+use Rattle.schedule.proofs.Meaning.Laws.{judged_ind}
+use Rattle.schedule.proofs.Meaning.Begins.{Whole, faulty_passed, faulty_begins, header_begins, ids_whole, begins_setting, begins_fresh}
+use Rattle.schedule.proofs.Meaning.Continues.{Continues, lines_continue, lines_unrefused, whole_continues, header_unrefused, meaning_whole}
+use Rattle.schedule.proofs.Simulation.{Invariants, Simulates, both, header_simulated, walk_simulated}
 use Rattle.schedule.specs.Report.{base_lines, waiting_line, refused_line, report_of, report}
 use Rattle.stored_walk.specs.State.{unread_net, refused_net, onward_net, replaying, report_net}
 

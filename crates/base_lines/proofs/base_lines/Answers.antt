@@ -12,7 +12,7 @@ use Rattle.print.specs.Put.Laws.{put_none, put_as, put_then, put_fits, fits_put,
 use Rattle.protocol.specs.declared.Base.{Base}
 use Rattle.net.specs.Abstraction.{net_of, size}
 use Rattle.schedule.specs.Report.{line_room, base_line, base_lines}
-use Rattle.schedule.specs.Report.Laws.{bases_none, bases_more}
+use Rattle.schedule.proofs.Report.Laws.{bases_none, bases_more}
 use Rattle.stored_walk.specs.Reaching.{base_there}
 use Rattle.base_lines.proofs.base_lines.Goals as goal
 

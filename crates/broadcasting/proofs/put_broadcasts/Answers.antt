@@ -1,7 +1,7 @@
 -- `broadcasting::put_broadcasts` meets its contract: the second frame goes into the rest of the output.
 use Rattle.broadcasting.specs.Broadcasting.Laws.{runs_on_said, stops_said, frame_within, rest_length}
 use Rattle.frame.specs.declared.size.FrameSize.{FrameSize}
-use Rattle.frame.specs.Encoding.Laws.{over_rest}
+use Rattle.frame.proofs.Encoding.Laws.{over_rest}
 use lib.ListN.{length}
 use native.Mathlib.Omega.{arith}
 use mathlib.Core.Path.{refl, ap, ◌∙◌}

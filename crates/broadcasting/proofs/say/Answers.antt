@@ -1,6 +1,6 @@
 -- `broadcasting::say` meets its contract: a kind that there is not, more identifiers than the array has, and else what is put.
 use Rattle.broadcasting.specs.Broadcasting.Laws.{nothing_said, unknown_frame, long_frame, put_frame}
-use Rattle.frame.specs.Message.Laws.{shape_known, shape_unknown}
+use Rattle.frame.proofs.Message.Laws.{shape_known, shape_unknown}
 use Rattle.frame.specs.Slots.{size_of}
 use Rattle.limits.specs.Limits.{most_bases}
 use lib.Seq.{length-take-le}

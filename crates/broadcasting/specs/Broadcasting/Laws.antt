@@ -13,10 +13,10 @@ use Rattle.lists.specs.Choice.{and}
 use Rattle.lists.specs.Choice.Laws.{choose_yes, choose_no, choose_ind, and_true, and_fails, and_both, and_no}
 use Rattle.frame.specs.Message.{known, expected}
 use Rattle.frame.specs.Encoding.{frame_of, over}
-use Rattle.frame.specs.Encoding.Laws.{length_frame, over_nothing}
+use Rattle.frame.proofs.Encoding.Laws.{length_frame, over_nothing}
 use Rattle.frame.specs.declared.size.FrameSize.{FrameSize}
 use Rattle.frame.specs.Slots.{size_of}
-use Rattle.frame.specs.Reading.Laws.{kind_unknown, kind_size}
+use Rattle.frame.proofs.Reading.Laws.{kind_unknown, kind_size}
 use Rattle.frame_room.specs.Room.{frame_fits}
 use Rattle.framing.specs.Framing.{put_length, put_output}
 use Rattle.frame_room.specs.Room.Laws.{fits_passed}

@@ -1,6 +1,6 @@
 -- `bursts::check` meets its contract: the checks stand in the order of the definition, and what one passes the next may ask.
 use mathlib.Core.Path.{sym, ◌∙◌}
-use Rattle.frame.specs.Reading.Laws.{passed_framed}
+use Rattle.frame.proofs.Reading.Laws.{passed_framed}
 use Rattle.frame.specs.Reading.{read_refusal, burst_refusal}
 use Rattle.lists.specs.Choice.Laws.{first_none, first_given}
 use Rattle.limits.specs.Refusals.Laws.{net_passed}

@@ -5,7 +5,7 @@ use mathlib.Core.Path.{◌≡◌, sym, ap, ◌∙◌}
 use native.Mathlib.Omega.{arith}
 use Rattle.lists.specs.Choice.Laws.{first_none, first_given}
 use Rattle.frame.specs.Reading.{from_end, kind_byte, count_byte, kind_refusal, trailer_refusal}
-use Rattle.frame.specs.Reading.Laws.{length_passed, kind_size}
+use Rattle.frame.proofs.Reading.Laws.{length_passed, kind_size}
 use Rattle.bursts.proofs.trailer_refusal.Goals as goal
 
 pub returns-then-length-ne0 : goal.returns-then-length-ne0

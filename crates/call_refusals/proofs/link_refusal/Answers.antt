@@ -1,6 +1,6 @@
 -- `call_refusals::link_refusal` meets its contract, by where the link stands.
 use mathlib.Core.Path.{sym}
-use Rattle.protocol.specs.Steps.Refusals.{link_short, link_far, link_near}
+use Rattle.protocol.proofs.Steps.Refusals.{link_short, link_far, link_near}
 use Rattle.call_refusals.proofs.link_refusal.Goals as goal
 
 pub returns-then-link-lt1 : goal.returns-then-link-lt1

@@ -6,7 +6,7 @@ use native.Mathlib.Omega.{arith}
 use lib.ListN.{length, set}
 use Rattle.decoding.specs.Decoding.Laws.{array_next, array_whole}
 use Rattle.lists.specs.Lists.Laws.{length_pad}
-use Rattle.frame.specs.Reading.Laws.{length_identifiers}
+use Rattle.frame.proofs.Reading.Laws.{length_identifiers}
 use Rattle.lists.specs.Lists.{pad_to}
 use Rattle.limits.specs.Limits.{most_bases}
 use Rattle.frame.specs.Reading as spec

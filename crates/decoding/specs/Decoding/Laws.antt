@@ -5,7 +5,8 @@ use Rattle.limits.specs.Limits.{most_bases}
 use Rattle.lists.specs.Lists.{pad_to}
 use Rattle.lists.specs.Lists.Laws.{length_pad, pad_front, pad_next}
 use Rattle.frame.specs.Reading.{count_byte, body_of, identifier, identifiers, ids_in}
-use Rattle.frame.specs.Reading.Laws.{Framed, length_identifiers, length_ids_in, identifiers_snoc, length_body_of}
+use Rattle.frame.specs.Reading.Laws.{Framed}
+use Rattle.frame.proofs.Reading.Laws.{length_identifiers, length_ids_in, identifiers_snoc, length_body_of}
 use Rattle.decoding.specs.Decoding.{id_array}
 
 pub array_next : (i : ℕ) (s : List ℕ) → i < most_bases

@@ -22,7 +22,7 @@ use Rattle.lists.specs.Choice.Laws.{
 }
 use Rattle.protocol.specs.Numbering.{link_to}
 use Rattle.protocol.specs.Steps.{Done, start, arrival}
-use Rattle.protocol.specs.Steps.Answers.{start_refused, arrival_refused}
+use Rattle.protocol.proofs.Steps.Answers.{start_refused, arrival_refused}
 use Rattle.protocol.specs.Net.{Event, starts, carry, forge, at, good, broadcast, call, call_refusal, event_refusal, refusal}
 use Rattle.protocol.specs.Net as Nets
 use Rattle.node.specs.declared.Frame.{Frame}

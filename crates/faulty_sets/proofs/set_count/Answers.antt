@@ -3,7 +3,7 @@ use mathlib.Core.Path.{sym, ap₂, ◌∙◌}
 use native.Mathlib.Numerals.{add-one}
 use native.Mathlib.Omega.{arith}
 use Rattle.link_sets.specs.Count.{set_count, choices_below}
-use Rattle.link_sets.specs.Theorem.{sets_many}
+use Rattle.link_sets.proofs.Theorem.{sets_many}
 use Rattle.faulty_sets.specs.Answers.Laws.{SmallNet, small_passed}
 use Rattle.faulty_sets.specs.Small.Laws.{pairs_few}
 use Rattle.faulty_sets.proofs.set_count.Goals as goal

@@ -1,6 +1,6 @@
 -- `faulty_sets::set_refusal` meets its contract: the net's numbers, then 20 from the count on.
 use native.Mathlib.Omega.{arith}
-use Rattle.link_sets.specs.Theorem.{some_set}
+use Rattle.link_sets.proofs.Theorem.{some_set}
 use Rattle.faulty_sets.specs.Answers.Laws.{number_before, number_past, number_there}
 use Rattle.faulty_sets.proofs.set_refusal.Goals as goal
 

@@ -11,8 +11,8 @@ use Rattle.limits.specs.Refusals.Laws.{size_passed}
 use Rattle.link_sets.specs.declared.LinkPair.{LinkPair}
 use Rattle.link_sets.specs.Sets.{faulty_sets, faulty_set_at}
 use Rattle.link_sets.specs.Count.{pair_count, set_count}
-use Rattle.link_sets.specs.Count.Laws.{below_mono}
-use Rattle.link_sets.specs.Theorem.{sets_many, each_once, some_set}
+use Rattle.link_sets.proofs.Count.Laws.{below_mono}
+use Rattle.link_sets.proofs.Theorem.{sets_many, each_once, some_set}
 use Rattle.faulty_sets.specs.declared.FaultyCount.TheVariants as counted
 use Rattle.faulty_sets.specs.declared.FaultySet.{FaultySet}
 use Rattle.faulty_sets.specs.declared.FaultySet.TheVariants.{Refused}

@@ -7,11 +7,11 @@ use Rattle.std.proofs.Math.Decide.{dec_lt}
 use Rattle.std.proofs.Math.ListN.{length, get_or, length-set, length-take, get_or-eq_default}
 use Rattle.link_sets.specs.declared.LinkPair.{LinkPair}
 use Rattle.link_sets.specs.Pairs.{net_pairs}
-use Rattle.link_sets.specs.Pairs.Laws.{pairs_counted}
+use Rattle.link_sets.proofs.Pairs.Laws.{pairs_counted}
 use Rattle.link_sets.specs.Sets.{sets_of}
-use Rattle.link_sets.specs.Sets.Laws.{sets_of_nothing, sets_both, set_with, set_without}
+use Rattle.link_sets.proofs.Sets.Laws.{sets_of_nothing, sets_both, set_with, set_without}
 use Rattle.link_sets.specs.Count.{pair_count, choices}
-use Rattle.link_sets.specs.Count.Laws.{sets_counted}
+use Rattle.link_sets.proofs.Count.Laws.{sets_counted}
 use Rattle.faulty_sets.specs.declared.search.Chosen.{Chosen}
 use Rattle.faulty_sets.specs.declared.search.Search.{Search}
 use Rattle.faulty_sets.specs.Answers.{no_link_pair}

@@ -3,11 +3,11 @@ use Rattle.std.specs.Prelude.{ℕ, suc, ◌+◌, ◌-◌, ◌≤◌, ◌<◌, �
 use Rattle.std.proofs.Common.{sym, ◌∙◌, arith}
 use Rattle.std.proofs.Math.Path.{ap}
 use Rattle.link_sets.specs.Pairs.{net_pairs}
-use Rattle.link_sets.specs.Pairs.Laws.{pairs_counted}
+use Rattle.link_sets.proofs.Pairs.Laws.{pairs_counted}
 use Rattle.link_sets.specs.Sets.{sets_of, faulty_sets, faulty_set_at}
 use Rattle.link_sets.specs.Count.{pair_count, choices, choices_below, set_count}
-use Rattle.link_sets.specs.Count.Laws.{sets_counted}
-use Rattle.link_sets.specs.Theorem.{sets_many, set_there}
+use Rattle.link_sets.proofs.Count.Laws.{sets_counted}
+use Rattle.link_sets.proofs.Theorem.{sets_many, set_there}
 
 module _ (n : ℕ) {m : ℕ} (e : m ≡ pair_count n) where
   same_pairs : length (net_pairs n) ≡ m

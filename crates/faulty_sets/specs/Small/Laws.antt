@@ -3,7 +3,7 @@ use Rattle.std.specs.Prelude.{ℕ, suc, ◌+◌, ◌*◌, ◌-◌, ◌^◌, ◌�
 use Rattle.std.proofs.Common.{mul-le-mul, mul-le-mul_left, mul-le-mul_right, arith, pow_mono}
 use Rattle.limits.specs.Limits.{small_bases}
 use Rattle.link_sets.specs.Count.{pair_count, choices, choices_below}
-use Rattle.link_sets.specs.Count.Laws.{choices_most, below_most}
+use Rattle.link_sets.proofs.Count.Laws.{choices_most, below_most}
 use Rattle.faulty_sets.specs.Small.{small_faulty, small_pairs}
 
 pub products_few : (n : ℕ) → n ≤ small_bases → n * (n - 1) ≤ small_bases * (small_bases - 1)

@@ -7,7 +7,7 @@ use Rattle.start_frames.specs.Frames.{start_frames, start_length, start_sizes}
 use Rattle.start_frames.specs.Frames.Laws.{start_long, start_fits, start_short}
 use Rattle.responding.specs.Responding.{response_frames}
 use Rattle.broadcasting.specs.Broadcasting.Laws.{rest_length}
-use Rattle.frame.specs.Encoding.Laws.{over_rest}
+use Rattle.frame.proofs.Encoding.Laws.{over_rest}
 use Rattle.frame.specs.Encoding.{over}
 use lib.ListN.{length, take, drop}
 use native.Mathlib.Omega.{arith}

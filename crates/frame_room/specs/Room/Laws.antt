@@ -5,7 +5,7 @@ use Rattle.limits.specs.Limits.{frame_bytes}
 use Rattle.lists.specs.Choice.Laws.{and_true, and_both}
 use Rattle.frame.specs.Message.{length_of}
 use Rattle.frame.specs.Reading.{kind_refusal}
-use Rattle.frame.specs.Reading.Laws.{kind_size, kind_few}
+use Rattle.frame.proofs.Reading.Laws.{kind_size, kind_few}
 use Rattle.frame_room.specs.Room.{frame_fits}
 
 pub fits : (n kind count room : ℕ) → kind_refusal n kind count ≡ 0 → length_of kind n ≤ room → frame_fits n kind count room ≡ true

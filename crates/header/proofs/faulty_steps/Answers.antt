@@ -6,7 +6,7 @@ use Rattle.net.specs.declared.StoredNet.{StoredNet}
 use Rattle.net.specs.Header.{begun_net}
 use Rattle.schedule.specs.Walk.{faulty_step, repeat}
 use Rattle.stored_walk.specs.State.{most_named_line, replaying}
-use Rattle.schedule.specs.Walk.Laws.{repeat_none, repeat_more}
+use Rattle.schedule.proofs.Walk.Laws.{repeat_none, repeat_more}
 use Rattle.stored_walk.specs.State.Laws.{faulty_near}
 use Rattle.header.proofs.faulty_steps.Goals as goal
 

@@ -8,15 +8,16 @@ use Rattle.std.proofs.Math.ListN.{length}
 use Rattle.limits.specs.Limits.{most_bases, frame_bytes}
 use Rattle.limits.specs.Refusals.{NetSize}
 use Rattle.frame.specs.Encoding.{over}
-use Rattle.frame.specs.Encoding.Laws.{length_over, over_rest}
+use Rattle.frame.proofs.Encoding.Laws.{length_over, over_rest}
 use Rattle.protocol.specs.declared.Base.{Base}
 use Rattle.protocol.specs.declared.Outcome.{Outcome}
 use Rattle.protocol.specs.Record.Memory.{Sized}
 use Rattle.protocol.specs.Sound.{idle, stopped}
-use Rattle.protocol.specs.Sound.Laws.{record_passed}
+use Rattle.protocol.proofs.Sound.Laws.{record_passed}
 use Rattle.protocol.specs.Steps.{Done, discards, with_state, on_message, arrival_step, encode_all, output_of}
-use Rattle.protocol.specs.Steps.Cases.{begun, after_start, arrival_stopped, arrival_idle}
-use Rattle.protocol.specs.Steps.First.{idle_first}
+use Rattle.protocol.specs.Steps.Cases.{begun}
+use Rattle.protocol.proofs.Steps.Cases.{after_start, arrival_stopped, arrival_idle}
+use Rattle.protocol.proofs.Steps.First.{idle_first}
 use Rattle.change.specs.declared.Change.{Change}
 use Rattle.change.specs.Change.{changed_base, ChangeOf, Does}
 use Rattle.change.specs.Change.Laws.{does_as, discards_does}

@@ -10,7 +10,8 @@ use Rattle.lists.specs.Lists.{zeros}
 use Rattle.lists.specs.Lists.Zeros.{pad_behind}
 use Rattle.frame.specs.Message.{Message, known, expected}
 use Rattle.frame.specs.Reading.{kind_byte, count_byte, body_of, ids_in, list_refusal, burst_refusal, read_refusal, message, message_of}
-use Rattle.frame.specs.Reading.Laws.{Framed, Passed, trailer_passed, read_passed, length_ids_in, kind_passes}
+use Rattle.frame.specs.Reading.Laws.{Framed}
+use Rattle.frame.proofs.Reading.Laws.{Passed, trailer_passed, read_passed, length_ids_in, kind_passes}
 use Rattle.reader.specs.declared.Reading.{Reading}
 use Rattle.reader.specs.declared.Reading.TheVariants as reads
 use Rattle.decoding.specs.Decoding.{id_array}
@@ -20,9 +21,9 @@ use Rattle.reader.specs.Answers.Laws.{reading_message, reading_refused}
 use Rattle.readings.specs.ReadNumbers.{read_numbers}
 use Rattle.protocol.specs.declared.Base.{Base}
 use Rattle.protocol.specs.Sound.{record_refusal}
-use Rattle.protocol.specs.Sound.Laws.{record_passed}
+use Rattle.protocol.proofs.Sound.Laws.{record_passed}
 use Rattle.protocol.specs.Steps.{refuses, unless, link_refusal, output_refusal, arrival_refusal, arrival_step, arrival}
-use Rattle.protocol.specs.Steps.Refusals.{unless_refused_lem}
+use Rattle.protocol.proofs.Steps.Refusals.{unless_refused_lem}
 use Rattle.change.specs.Heard.{message_in}
 use Rattle.messages.specs.Messages.{message_refusal}
 use Rattle.hearing.specs.Hearing.{place_refusal, hear_refusal, message_arrival}

@@ -8,20 +8,21 @@ use Rattle.limits.specs.Limits.{most_bases, frame_bytes, output_room}
 use Rattle.limits.specs.Refusals.{NetSize}
 use Rattle.lists.specs.Choice.Laws.{choose_ind, choose_no}
 use Rattle.frame.specs.Message.{Message, announce, verify, ids_of, expected}
-use Rattle.frame.specs.Message.Laws.{expected_range}
+use Rattle.frame.proofs.Message.Laws.{expected_range}
 use Rattle.frame.specs.Reading.{message}
 use Rattle.frame.specs.Encoding.{over}
 use Rattle.protocol.specs.declared.Base.{Base}
 use Rattle.protocol.specs.declared.Outcome.{Outcome}
 use Rattle.protocol.specs.declared.Outcome.TheVariants.{Accepted, Discarded}
 use Rattle.protocol.specs.Airtime.{own_slots, relayed_slots}
-use Rattle.protocol.specs.Airtime.Laws.{start_answer}
+use Rattle.protocol.proofs.Airtime.Laws.{start_answer}
 use Rattle.protocol.specs.Sound.{idle, stopped, record_refusal}
-use Rattle.protocol.specs.Sound.Laws.{record_passed}
+use Rattle.protocol.proofs.Sound.Laws.{record_passed}
 use Rattle.protocol.specs.Steps.{Answer, accepted, discarded, refused, Done, accepts, with_state, begins, on_message, arrival_step}
 use Rattle.protocol.specs.Steps.{encode_all, lengths, with_sums, outcome_with, outcome_of, output_of}
-use Rattle.protocol.specs.Steps.Cases.{begun, after_start}
-use Rattle.protocol.specs.Steps.Sizes.{message_brief, said_fits}
+use Rattle.protocol.specs.Steps.Cases.{begun}
+use Rattle.protocol.proofs.Steps.Cases.{after_start}
+use Rattle.protocol.proofs.Steps.Sizes.{message_brief, said_fits}
 use Rattle.change.specs.declared.Change.{Change}
 use Rattle.change.specs.Change.{changed_base, Does}
 use Rattle.change.specs.Heard.{message_in}

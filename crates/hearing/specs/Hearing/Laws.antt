@@ -8,11 +8,11 @@ use Rattle.lists.specs.Choice.Laws.{choose_ind, first_passed}
 use Rattle.lists.specs.Lists.{zeros, pad_to}
 use Rattle.lists.specs.Lists.Zeros.{zeros_are}
 use Rattle.frame.specs.Message.{expected, holds_one}
-use Rattle.frame.specs.Message.Laws.{expected_range}
-use Rattle.frame.specs.Reading.Laws.{kind_passed}
+use Rattle.frame.proofs.Message.Laws.{expected_range}
+use Rattle.frame.proofs.Reading.Laws.{kind_passed}
 use Rattle.protocol.specs.declared.Base.{Base}
 use Rattle.protocol.specs.Steps.{refuses, arrival_step}
-use Rattle.protocol.specs.Steps.Refusals.{unless_passed, unless_refused_lem, link_passed, output_passed}
+use Rattle.protocol.proofs.Steps.Refusals.{unless_passed, unless_refused_lem, link_passed, output_passed}
 use Rattle.messages.specs.Messages.{message_refusal}
 use Rattle.change.specs.Heard.{message_in, HoldsFirst, MessageIn}
 use Rattle.hearing.specs.Hearing.First.{Ready}

@@ -10,13 +10,13 @@ use Rattle.lists.specs.Choice.{choose}
 use Rattle.lists.specs.Choice.Laws.{choose_ind, first_passed}
 use Rattle.lists.specs.Lists.{nonzero, ascending, Below}
 use Rattle.frame.specs.Message.{expected, Valid}
-use Rattle.frame.specs.Message.Laws.{known_is}
-use Rattle.frame.specs.Reading.Laws.{kind_passed, list_passed, below_take}
-use Rattle.frame.specs.Reading.Theorems.{parts_message}
+use Rattle.frame.proofs.Message.Laws.{known_is}
+use Rattle.frame.proofs.Reading.Laws.{kind_passed, list_passed, below_take}
+use Rattle.frame.proofs.Reading.Theorems.{parts_message}
 use Rattle.protocol.specs.declared.Base.{Base}
-use Rattle.protocol.specs.Sound.Laws.{record_passed}
+use Rattle.protocol.proofs.Sound.Laws.{record_passed}
 use Rattle.protocol.specs.Steps.{Done, refuses, unless, arrival_step}
-use Rattle.protocol.specs.Steps.Refusals.{Heard}
+use Rattle.protocol.proofs.Steps.Refusals.{Heard}
 use Rattle.change.specs.Heard.{message_in}
 use Rattle.messages.specs.Messages.{message_refusal}
 use Rattle.hearing.specs.Hearing.{hear_refusal, message_arrival}

@@ -7,12 +7,13 @@ use borrow.Author.Tests.{ltb-true, leb-true, eqb-true, eqb-false, not-true}
 use Rattle.lists.specs.Choice.Laws.{and_true}
 use Rattle.lists.specs.Lists.{Below}
 use Rattle.counting.specs.Sums.Laws.{all_at}
-use Rattle.protocol.specs.Computed.{computed}
+use Rattle.protocol.proofs.Computed.{computed}
 use Rattle.protocol.specs.Net.{Pair, Event, starts, carry, forge, has_stopped}
 use Rattle.protocol.specs.Agreement.{BaseOf, Setting, Proper, AllProper}
-use Rattle.protocol.specs.Agreement.Premise.{idle_net, idle_fresh}
-use Rattle.protocol.specs.Agreement.Theorem.{agreement}
-use Rattle.protocol.specs.Agreement.Outer.Beginning.{each_base}
+use Rattle.protocol.specs.Agreement.Premise.{idle_net}
+use Rattle.protocol.proofs.Agreement.Premise.{idle_fresh}
+use Rattle.protocol.proofs.Agreement.Theorem.{agreement}
+use Rattle.protocol.proofs.Agreement.Outer.Beginning.{each_base}
 use Rattle.histories.specs.Examples.{Example, starts_at, carries, worked_example, faulty_link_example}
 use Rattle.histories.specs.Examples.{base_test, bases_test, bytes_test, proper_test, all_proper_test}
 use Rattle.histories.specs.Examples.{identifier_test, identifiers_test, setting_test, given_test}

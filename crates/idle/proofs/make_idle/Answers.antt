@@ -5,7 +5,7 @@ use native.Mathlib.Omega.{arith}
 use borrow.Author.Tests.{eq-eqb, ne_eqb}
 use Rattle.idle.specs.Made.{made_of}
 use Rattle.idle.specs.declared.Made.{Made}
-use Rattle.protocol.specs.Sound.Laws.{setting_passed}
+use Rattle.protocol.proofs.Sound.Laws.{setting_passed}
 use Rattle.protocol.specs.declared.Base.{Base}
 use Rattle.lists.specs.Choice.Laws.{chosen_yes, chosen_no}
 use Rattle.idle.proofs.make_idle.Goals as goal

@@ -7,7 +7,7 @@ use lib.ListN.{length, take}
 use lib.Seq.{length-take-le}
 use Rattle.protocol.proofs.Sizes.{base_sized}
 use Rattle.protocol.specs.Steps.{leader_answer}
-use Rattle.protocol.specs.Sound.Laws.{record_passed}
+use Rattle.protocol.proofs.Sound.Laws.{record_passed}
 use Rattle.protocol.specs.Sound.{record_refusal, stopped}
 use Rattle.protocol.specs.Record.{final_list}
 use Rattle.lists.specs.Choice.Laws.{chosen_yes, chosen_no}

@@ -1,6 +1,6 @@
 -- `messages::message_refusal` meets its contract: the kind's shape, what stands behind the identifiers, and the list.
 use Rattle.messages.specs.Messages.Laws.{message_unknown, message_behind, message_list, list_within}
-use Rattle.frame.specs.Message.Laws.{shape_known, shape_unknown}
+use Rattle.frame.proofs.Message.Laws.{shape_known, shape_unknown}
 use Rattle.limits.specs.Limits.{most_bases}
 use lib.Seq.{length-take-le}
 use lib.ListN.{length}

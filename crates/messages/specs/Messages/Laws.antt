@@ -7,7 +7,7 @@ use Rattle.lists.specs.Choice.Laws.{choose_yes, choose_no, first_none, first_giv
 use Rattle.lists.specs.Lists.{zeros}
 use Rattle.frame.specs.Message.{known, expected}
 use Rattle.frame.specs.Reading.{list_refusal}
-use Rattle.frame.specs.Reading.Laws.{kind_passes, kind_unknown}
+use Rattle.frame.proofs.Reading.Laws.{kind_passes, kind_unknown}
 use Rattle.messages.specs.Messages.{message_refusal}
 
 module _ (n kind : ℕ) (ids : List ℕ) where

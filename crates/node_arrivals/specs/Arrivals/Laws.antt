@@ -12,9 +12,9 @@ use Rattle.decoding.specs.Decoding.{id_array}
 use Rattle.reader.specs.Answers.{reading_of}
 use Rattle.reader.specs.Answers.Laws.{reading_refused}
 use Rattle.reader.specs.Answers.Place.{body_there}
-use Rattle.protocol.specs.Sound.Laws.{record_passed}
+use Rattle.protocol.proofs.Sound.Laws.{record_passed}
 use Rattle.protocol.specs.Steps.{arrival, arrival_refusal}
-use Rattle.protocol.specs.Steps.Answers.{arrival_number, arrival_refused}
+use Rattle.protocol.proofs.Steps.Answers.{arrival_number, arrival_refused}
 use Rattle.protocol.specs.Net.{call_refusal}
 use Rattle.hearing.specs.Hearing.{message_arrival}
 use Rattle.hearing.specs.Hearing.Bursts.{read_heard}

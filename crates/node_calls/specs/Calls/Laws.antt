@@ -8,20 +8,20 @@ use Rattle.limits.specs.Limits.{longest_frame, output_room}
 use Rattle.lists.specs.Choice.Laws.{choose_no}
 use Rattle.frame.specs.Message.{Message}
 use Rattle.frame.specs.Encoding.{encode, over}
-use Rattle.frame.specs.Encoding.Laws.{length_over}
+use Rattle.frame.proofs.Encoding.Laws.{length_over}
 use Rattle.protocol.specs.declared.Base.{Base}
 use Rattle.protocol.specs.declared.Outcome.{Outcome}
 use Rattle.protocol.specs.Net.{call_refusal}
 use Rattle.protocol.specs.Steps.{Answer, accepted, discarded, refused, Done, encode_all, lengths, outcome_with, output_of}
-use Rattle.protocol.specs.Steps.Answers.{Unchanged}
-use Rattle.protocol.specs.Steps.Output.{lengths_sum}
+use Rattle.protocol.proofs.Steps.Answers.{Unchanged}
+use Rattle.protocol.proofs.Steps.Output.{lengths_sum}
 use Rattle.change.specs.Change.{DoesAs}
 use Rattle.c_answers.specs.declared.CallAnswer.{CallAnswer}
 use Rattle.c_answers.specs.Numbers.{outcome_numbers}
 use Rattle.node.specs.declared.Node.{Node}
 use Rattle.node_calls.specs.declared.NodeAnswer.{NodeAnswer}
 use Rattle.node.specs.Node.{joined, joined_all, with_base, node_after}
-use Rattle.protocol.specs.Steps.Sizes.{length_encode}
+use Rattle.protocol.proofs.Steps.Sizes.{length_encode}
 use Rattle.node_calls.specs.Calls.{node_answer, Fitting, written_answer}
 use Rattle.keeping.specs.Keeping.{kept_of, kept_from, AllFit, kept_three}
 use Rattle.keeping.specs.Keeping.Laws.{kept_none, kept_three_lem}

@@ -9,7 +9,7 @@ use Rattle.frame.specs.Message.{Message, announce, verify, correct_final, verify
 use Rattle.frame.specs.Encoding.{encode}
 use Rattle.protocol.specs.declared.Base.{Base}
 use Rattle.protocol.specs.Record.Memory.{Sized}
-use Rattle.protocol.specs.Sound.Laws.{record_passed}
+use Rattle.protocol.proofs.Sound.Laws.{record_passed}
 use Rattle.protocol.specs.Steps.{
   accepted,
   discarded,
@@ -25,28 +25,13 @@ use Rattle.protocol.specs.Steps.{
   arrival_step,
   encode_all,
 }
-use Rattle.protocol.specs.Steps.Answers.{Unchanged}
-use Rattle.protocol.specs.Steps.Cases.{
-  Takes,
-  takes_announce,
-  takes_verify,
-  takes_correct,
-  takes_and_votes,
-  takes_verify_final,
-  Ends,
-  discarding,
-  running_on,
-  stopping,
-  message_ends,
-  begun,
-  after_start,
-  start_step_cases,
-  arrival_step_cases,
-}
-use Rattle.protocol.specs.Steps.Laws.{takes_rest}
-use Rattle.protocol.specs.Steps.Output.{start_step_brief, arrival_step_brief}
-use Rattle.protocol.specs.Steps.Refusals.{Heard, start_cases}
-use Rattle.protocol.specs.Steps.Sizes.{length_encode, Brief, valid_fits, decides_fits}
+use Rattle.protocol.proofs.Steps.Answers.{Unchanged}
+use Rattle.protocol.specs.Steps.Cases.{begun}
+use Rattle.protocol.proofs.Steps.Cases.{Takes, takes_announce, takes_verify, takes_correct, takes_and_votes, takes_verify_final, Ends, discarding, running_on, stopping, message_ends, after_start, start_step_cases, arrival_step_cases}
+use Rattle.protocol.proofs.Steps.Laws.{takes_rest}
+use Rattle.protocol.proofs.Steps.Output.{start_step_brief, arrival_step_brief}
+use Rattle.protocol.proofs.Steps.Refusals.{Heard, start_cases}
+use Rattle.protocol.proofs.Steps.Sizes.{length_encode, Brief, valid_fits, decides_fits}
 use Rattle.hearing.specs.Hearing.{message_arrival}
 use Rattle.hearing.specs.Hearing.Valid.{message_heard, message_cases}
 

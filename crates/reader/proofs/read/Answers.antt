@@ -6,7 +6,8 @@ use mathlib.Core.Path.{sym, ap, ◌∙◌}
 use native.Mathlib.Omega.{arith}
 use borrow.Author.Tests.{eq-eqb, ne_eqb}
 use lib.ListN.{length}
-use Rattle.frame.specs.Reading.Laws.{Framed, read_passed}
+use Rattle.frame.specs.Reading.Laws.{Framed}
+use Rattle.frame.proofs.Reading.Laws.{read_passed}
 use Rattle.frame.specs.Reading.{kind_byte, count_byte, body_start, from_end}
 use Rattle.reader.specs.declared.Reading.TheVariants.{Message, Refused}
 use Rattle.lists.specs.Choice.Laws.{chosen_yes, chosen_no}

@@ -7,7 +7,8 @@ use Rattle.limits.specs.Limits.{most_bases}
 use Rattle.lists.specs.Choice.Laws.{choose_yes, choose_no}
 use Rattle.lists.specs.Lists.{pad_to}
 use Rattle.frame.specs.Reading.{kind_byte, count_byte, body_start, body_of, read_refusal, identifiers}
-use Rattle.frame.specs.Reading.Laws.{Framed, read_passed}
+use Rattle.frame.specs.Reading.Laws.{Framed}
+use Rattle.frame.proofs.Reading.Laws.{read_passed}
 use Rattle.decoding.specs.Decoding.{id_array}
 use Rattle.reader.specs.declared.Reading.{Reading}
 use Rattle.reader.specs.declared.Reading.TheVariants.{Message, Refused}

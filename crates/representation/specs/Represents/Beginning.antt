@@ -11,7 +11,7 @@ use Rattle.lists.specs.Choice.Laws.{choose_yes, choose_ind, and_no}
 use Rattle.protocol.specs.Sound.{idle_base}
 use Rattle.protocol.specs.Net.{replaced}
 use Rattle.protocol.specs.Net as Nets
-use Rattle.protocol.specs.Agreement.Inner.Moves.{replaced_here, replaced_other}
+use Rattle.protocol.proofs.Agreement.Inner.Moves.{replaced_here, replaced_other}
 use Rattle.protocol.specs.Agreement.Premise.{idle_net}
 use Rattle.node.specs.declared.Node.{Node}
 use Rattle.node.specs.Node.{most_broadcasts, mark_room, in_range, mark_place, log_of, heard_by, with_base, empty_frame}

@@ -13,10 +13,10 @@ use Rattle.frame.specs.Encoding.{encode}
 use Rattle.protocol.specs.Net.{Pair, Event, starts, carry, forge, at, call, event_refusal, refusal, net_after, happens, run}
 use Rattle.protocol.specs.Net as Nets
 use Rattle.protocol.specs.Agreement.{BaseOf, Setting, Fresh, Proper}
-use Rattle.protocol.specs.Agreement.Longer.{run_more, proper_more}
-use Rattle.protocol.specs.Agreement.Besides.{orderly}
-use Rattle.protocol.specs.Agreement.Inner.Moves.{replaced_here}
-use Rattle.protocol.specs.Agreement.Outer.Refusals.{carry_names_broadcast, carry_has_number}
+use Rattle.protocol.proofs.Agreement.Longer.{run_more, proper_more}
+use Rattle.protocol.proofs.Agreement.Besides.{orderly}
+use Rattle.protocol.proofs.Agreement.Inner.Moves.{replaced_here}
+use Rattle.protocol.proofs.Agreement.Outer.Refusals.{carry_names_broadcast, carry_has_number}
 use Rattle.node.specs.Node.{most_broadcasts, in_range}
 use Rattle.node.specs.Node.Within.{is_within}
 use Rattle.net.specs.declared.StoredNet.{StoredNet}

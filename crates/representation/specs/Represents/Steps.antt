@@ -12,7 +12,7 @@ use Rattle.frame.specs.Encoding.{encode}
 use Rattle.protocol.specs.Steps.{Done}
 use Rattle.protocol.specs.Net.{Event, starts, carry, forge, at, call, refusal, replaced, carried_after, net_after, happens}
 use Rattle.protocol.specs.Net as Nets
-use Rattle.protocol.specs.Agreement.Inner.Moves.{replaced_here, replaced_other}
+use Rattle.protocol.proofs.Agreement.Inner.Moves.{replaced_here, replaced_other}
 use Rattle.node.specs.declared.Node.{Node}
 use Rattle.node.specs.Node.{most_broadcasts, in_range, mark_place, log_of, heard_by}
 use Rattle.node.specs.Node as Nodes

@@ -10,7 +10,7 @@ use Rattle.lists.specs.Choice.Laws.{choose_yes, choose_same}
 use Rattle.protocol.specs.declared.Base.{Base}
 use Rattle.protocol.specs.Net.{replaced}
 use Rattle.protocol.specs.Net as Nets
-use Rattle.protocol.specs.Agreement.Inner.Moves.{replaced_here, replaced_other}
+use Rattle.protocol.proofs.Agreement.Inner.Moves.{replaced_here, replaced_other}
 use Rattle.node.specs.declared.Node.{Node}
 use Rattle.node.specs.Node.{in_range}
 use Rattle.node.specs.Node.Memory.{SizedNode}

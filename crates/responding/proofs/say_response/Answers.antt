@@ -1,7 +1,7 @@
 -- `responding::say_response` meets its contract: a message that is discarded broadcasts nothing.
 use Rattle.responding.specs.Responding.{response_frames, response_outcome}
 use Rattle.frame.specs.Encoding.{over}
-use Rattle.frame.specs.Encoding.Laws.{over_nothing}
+use Rattle.frame.proofs.Encoding.Laws.{over_nothing}
 use Rattle.lists.specs.Choice.Laws.{choose_yes, choose_no}
 use mathlib.Core.List.{List}
 use mathlib.Core.Path.{sym, ap, ◌∙◌}

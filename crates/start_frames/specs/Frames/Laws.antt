@@ -10,9 +10,9 @@ use Rattle.lists.specs.Choice.{choose}
 use Rattle.lists.specs.Choice.Laws.{choose_yes, choose_no, choose_ind, and_true}
 use Rattle.frame.specs.Message.{kind_of, ids_of}
 use Rattle.frame.specs.Encoding.{frame_of, encode, over}
-use Rattle.frame.specs.Encoding.Laws.{length_frame, over_nothing}
+use Rattle.frame.proofs.Encoding.Laws.{length_frame, over_nothing}
 use Rattle.frame.specs.Slots.{size_of}
-use Rattle.frame.specs.Reading.Laws.{announce_kind, verify_kind, kind_size}
+use Rattle.frame.proofs.Reading.Laws.{announce_kind, verify_kind, kind_size}
 use Rattle.frame_room.specs.Room.Laws.{fits_passed}
 use Rattle.two_frames.specs.declared.TwoSizes.{TwoSizes}
 use Rattle.two_frames.specs.TwoFrames.{two_fit, two_sizes, two_output}

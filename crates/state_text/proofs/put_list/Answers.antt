@@ -9,7 +9,7 @@ use Rattle.print.specs.Decimal.{field_text}
 use Rattle.print.specs.Decimal.Laws.{few_field}
 use Rattle.print.specs.Put.Laws.{put_none, put_as, put_next, step}
 use Rattle.schedule.specs.Report.{identifier_digits}
-use Rattle.schedule.specs.Report.Laws.{list_none, list_more, list_all}
+use Rattle.schedule.proofs.Report.Laws.{list_none, list_more, list_all}
 use Rattle.state_text.proofs.put_list.Goals as goal
 
 pub loop-i-init : goal.loop-i-init

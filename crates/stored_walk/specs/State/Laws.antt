@@ -37,7 +37,7 @@ use Rattle.schedule.specs.Walk.{
   line_step,
   next_line,
 }
-use Rattle.schedule.specs.Walk.Laws.{repeat_more, repeat_done}
+use Rattle.schedule.proofs.Walk.Laws.{repeat_more, repeat_done}
 use Rattle.limits.specs.Limits.{most_bases, output_room}
 use Rattle.hexadecimal.specs.Hex.{hex_bytes}
 use Rattle.stored_walk.specs.State.{

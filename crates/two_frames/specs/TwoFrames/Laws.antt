@@ -5,12 +5,12 @@ use Rattle.std.proofs.Common.{◌∙◌, arith, length-take, length-drop}
 use Rattle.limits.specs.Limits.{frame_bytes}
 use Rattle.lists.specs.Choice.Laws.{choose_yes, chosen_yes, and_fails, and_goes_on, and_true}
 use Rattle.frame.specs.Encoding.{frame_of, over}
-use Rattle.frame.specs.Encoding.Laws.{over_rest, length_frame}
+use Rattle.frame.proofs.Encoding.Laws.{over_rest, length_frame}
 use Rattle.frame.specs.Message.{length_of}
 use Rattle.frame.specs.declared.size.FrameSize.{FrameSize}
 use Rattle.frame.specs.Slots.{size_of}
 use Rattle.frame.specs.Reading.{kind_refusal}
-use Rattle.frame.specs.Reading.Laws.{kind_size}
+use Rattle.frame.proofs.Reading.Laws.{kind_size}
 use Rattle.frame_room.specs.Room.{frame_fits}
 use Rattle.framing.specs.Framing.{put_length, put_output}
 use Rattle.frame_room.specs.Room.Laws.{fits, fits_passed}

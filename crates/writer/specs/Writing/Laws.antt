@@ -8,7 +8,7 @@ use Rattle.lists.specs.Choice.{first}
 use Rattle.lists.specs.Choice.Laws.{choose_yes, choose_no, passed, first_none, first_given, first_passed}
 use Rattle.frame.specs.Message.{known, expected, length_of}
 use Rattle.frame.specs.Reading.{kind_refusal, list_refusal}
-use Rattle.frame.specs.Reading.Laws.{kind_passed, kind_size}
+use Rattle.frame.proofs.Reading.Laws.{kind_passed, kind_size}
 use Rattle.frame_room.specs.Room.{frame_fits}
 use Rattle.frame_room.specs.Room.Laws.{fits}
 use Rattle.writer.specs.Writing.{write_refusal}

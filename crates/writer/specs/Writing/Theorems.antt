@@ -6,13 +6,13 @@ use Rattle.std.proofs.Common.{ap, ap₂, ◌∙◌, subst, arith, eqb-true}
 use Rattle.lists.specs.Choice.Laws.{choose_ind}
 use Rattle.lists.specs.Lists.{nonzero, ascending, Below}
 use Rattle.frame.specs.Message.{kind_of, ids_of, expected, length_of, Valid}
-use Rattle.frame.specs.Message.Laws.{known_is}
+use Rattle.frame.proofs.Message.Laws.{known_is}
 use Rattle.frame.specs.Encoding.{frame_of, encode}
-use Rattle.frame.specs.Encoding.Laws.{length_frame, over_past}
+use Rattle.frame.proofs.Encoding.Laws.{length_frame, over_past}
 use Rattle.frame.specs.Slots.{size_of}
 use Rattle.frame.specs.Reading.{message}
-use Rattle.frame.specs.Reading.Laws.{list_passed}
-use Rattle.frame.specs.Reading.Theorems.{parts_message}
+use Rattle.frame.proofs.Reading.Laws.{list_passed}
+use Rattle.frame.proofs.Reading.Theorems.{parts_message}
 use Rattle.writer.specs.Writing.{write_refusal, write_output}
 use Rattle.writer.specs.Writing.Laws.{write_passed}
 

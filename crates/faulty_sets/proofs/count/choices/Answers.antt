@@ -4,7 +4,7 @@ use Prim.Native.Nat.{◌-◌}
 use mathlib.Core.Path.{◌≡◌, refl, sym, ap, ◌∙◌}
 use native.Mathlib.Omega.{arith}
 use Rattle.link_sets.specs.Count.{choices}
-use Rattle.link_sets.specs.Count.Laws.{choices_none, choices_next}
+use Rattle.link_sets.proofs.Count.Laws.{choices_none, choices_next}
 use Rattle.faulty_sets.specs.Small.Laws.{factor_few}
 use Rattle.faulty_sets.proofs.count.choices.Goals as goal
 

@@ -3,7 +3,7 @@ use Prim.Native.Nat.{◌-◌, ◌≤◌}
 use mathlib.Core.Path.{◌≡◌, refl, ap, ◌∙◌}
 use native.Mathlib.Omega.{arith}
 use Rattle.link_sets.specs.Count.{choices_below}
-use Rattle.link_sets.specs.Count.Laws.{below_more}
+use Rattle.link_sets.proofs.Count.Laws.{below_more}
 use Rattle.faulty_sets.specs.Small.{small_faulty}
 use Rattle.faulty_sets.specs.Small.Laws.{sum_few}
 use Rattle.faulty_sets.proofs.count.choices_below.Goals as goal

@@ -3,7 +3,7 @@ use Prim.Native.Nat.{suc, ◌+◌, ◌-◌}
 use mathlib.Core.Path.{◌≡◌, refl, ap}
 use native.Mathlib.Omega.{arith}
 use Rattle.link_sets.specs.Count.{choices_below}
-use Rattle.link_sets.specs.Count.Laws.{below_more}
+use Rattle.link_sets.proofs.Count.Laws.{below_more}
 use Rattle.faulty_sets.proofs.count.of_size.Goals as goal
 
 pub loop-size-init : goal.loop-size-init

@@ -2,7 +2,7 @@
 use Prim.Native.Nat.{ℕ, ◌+◌, ◌-◌, ◌<◌}
 use mathlib.Core.Path.{◌≡◌, refl, ap, ◌∙◌}
 use native.Mathlib.Omega.{arith}
-use Rattle.link_sets.specs.Pairs.Laws.{pairs_counted}
+use Rattle.link_sets.proofs.Pairs.Laws.{pairs_counted}
 use Rattle.link_sets.specs.Count.{pair_count, choices}
 use Rattle.faulty_sets.specs.Search.Laws.{place_left, taken_sought, taken_searching, passed_sought, passed_searching}
 use Rattle.faulty_sets.specs.Small.Laws.{pairs_few}

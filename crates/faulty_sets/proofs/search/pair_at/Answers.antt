@@ -6,7 +6,7 @@ use mathlib.Core.List.{List}
 use native.Mathlib.Omega.{arith}
 use lib.ListN.{length, get_or}
 use Rattle.link_sets.specs.declared.LinkPair.{LinkPair}
-use Rattle.link_sets.specs.Pairs.Laws.{pair_here, some_above, place_further, pair_above, from_one}
+use Rattle.link_sets.proofs.Pairs.Laws.{pair_here, some_above, place_further, pair_above, from_one}
 use Rattle.faulty_sets.specs.Answers.{no_link_pair}
 use Rattle.faulty_sets.proofs.search.pair_at.Goals as goal
 

@@ -1,7 +1,7 @@
 -- `frame::kind::kind_refusal` meets its contract: the shape says whether there is such a kind, and how many identifiers it holds.
 use mathlib.Core.Path.{sym, ◌∙◌}
-use Rattle.frame.specs.Message.Laws.{shape_known, shape_unknown}
-use Rattle.frame.specs.Reading.Laws.{kind_unknown, kind_count, kind_passes}
+use Rattle.frame.proofs.Message.Laws.{shape_known, shape_unknown}
+use Rattle.frame.proofs.Reading.Laws.{kind_unknown, kind_count, kind_passes}
 use Rattle.frame.proofs.kind.kind_refusal.Goals as goal
 
 pub returns-in_default : goal.returns-in_default

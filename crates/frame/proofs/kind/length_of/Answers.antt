@@ -1,6 +1,6 @@
 -- `frame::kind::length_of` meets its contract: the length that the kind's shape has.
 use mathlib.Core.Path.{sym, ◌∙◌}
-use Rattle.frame.specs.Message.Laws.{shape_known, shape_unknown, length_known, length_unknown}
+use Rattle.frame.proofs.Message.Laws.{shape_known, shape_unknown, length_known, length_unknown}
 use Rattle.frame.proofs.kind.length_of.Goals as goal
 
 pub returns-in-Known : goal.returns-in-Known

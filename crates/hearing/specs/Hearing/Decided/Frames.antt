@@ -8,18 +8,18 @@ use Rattle.limits.specs.Limits.{most_bases, frame_slots}
 use Rattle.lists.specs.Choice.{choose, or}
 use Rattle.lists.specs.Choice.Laws.{choose_yes, choose_no, choose_ind, clash}
 use Rattle.frame.specs.Message.{Message, correct_final, kind_of, ids_of, known, expected, holds_one, holds_all}
-use Rattle.frame.specs.Message.Laws.{known_is, length_known, expected_range}
+use Rattle.frame.proofs.Message.Laws.{known_is, length_known, expected_range}
 use Rattle.lists.specs.Lists.{sum_over}
 use Rattle.frame.specs.Encoding.{frame_of, encode, over}
 use Rattle.frame.specs.Slots.{size_of, slots_of}
-use Rattle.frame.specs.Encoding.Laws.{length_frame}
-use Rattle.frame.specs.Reading.Laws.{kind_passes}
-use Rattle.frame.specs.Reading.Theorems.{parts_message}
+use Rattle.frame.proofs.Encoding.Laws.{length_frame}
+use Rattle.frame.proofs.Reading.Laws.{kind_passes}
+use Rattle.frame.proofs.Reading.Theorems.{parts_message}
 use Rattle.frame_room.specs.Room.Laws.{fits}
 use Rattle.protocol.specs.declared.Base.{Base}
 use Rattle.protocol.specs.declared.Outcome.TheVariants.{Accepted}
 use Rattle.protocol.specs.Airtime.{own_slots, relayed_slots}
-use Rattle.protocol.specs.Airtime.Laws.{sums_whole, nothing_not_relayed, final_not_relayed, slots_append}
+use Rattle.protocol.proofs.Airtime.Laws.{sums_whole, nothing_not_relayed, final_not_relayed, slots_append}
 use Rattle.protocol.specs.Steps.{Done, accepted, accepts, encode_all, lengths, outcome_with, output_of}
 use Rattle.change.specs.declared.Change.{Change}
 use Rattle.change.specs.Change.{changed_base, Does}

@@ -14,19 +14,19 @@ use Rattle.lists.specs.Lists.{member, sort, pad_to}
 use Rattle.lists.specs.Lists.Laws.{pad_front}
 use Rattle.lists.specs.Lists.Sorted.{length_sort}
 use Rattle.frame.specs.Message.{Message, announce, verify, correct_final, verify_final, known, expected, holds_one, holds_all}
-use Rattle.frame.specs.Message.Laws.{Kind, known_is}
+use Rattle.frame.proofs.Message.Laws.{Kind, known_is}
 use Rattle.frame.specs.Reading.{message}
 use Rattle.protocol.specs.declared.Link.{Link}
 use Rattle.protocol.specs.declared.Base.{Base}
 use Rattle.protocol.specs.Airtime.{own_slots}
-use Rattle.protocol.specs.Airtime.Laws.{nothing_not_own, verify_not_own, vote_not_own}
+use Rattle.protocol.proofs.Airtime.Laws.{nothing_not_own, verify_not_own, vote_not_own}
 use Rattle.protocol.specs.Links.{announces, holds_verify, full}
 use Rattle.protocol.specs.Record.{link_at, link_count, links, list_tally, correct_count, certified}
 use Rattle.protocol.specs.Steps.{Done, accepts, discards, with_link, with_sent, with_state, with_final, with_announce, with_verify, with_vector}
 use Rattle.protocol.specs.Steps.{prime_holds, secondary_holds, stops, prime_check, secondary_check, on_announce, on_verify, votes, vote}
 use Rattle.protocol.specs.Steps.{on_correct_final, on_verify_final, on_message}
-use Rattle.protocol.specs.Steps.Certified.{uncertified_other}
-use Rattle.protocol.specs.Steps.Checks.{prime_parts}
+use Rattle.protocol.proofs.Steps.Certified.{uncertified_other}
+use Rattle.protocol.proofs.Steps.Checks.{prime_parts}
 use Rattle.change.specs.Heard.{HoldsFirst, MessageIn, message_in}
 use Rattle.change.specs.Heard.Laws.{kind_one, kind_two, kind_three, kind_four}
 use Rattle.accepting.specs.declared.Accepted.{Accepted}

@@ -15,7 +15,7 @@ use Rattle.net.specs.Abstraction.{net_of, size}
 use Rattle.net.specs.Header.{begun_net}
 use Rattle.schedule.specs.Report.{line_room, base_lines, waiting_line}
 use Rattle.schedule.specs.Walk.{next_line, repeat}
-use Rattle.schedule.specs.Walk.Laws.{repeat_none, repeat_done}
+use Rattle.schedule.proofs.Walk.Laws.{repeat_none, repeat_done}
 use Rattle.stored_walk.specs.State.{report_net, replaying, line_after}
 use Rattle.stored_walk.specs.State.Laws.{next_refused}
 use Rattle.stored_walk.specs.State.Walked.{LinesWalked, lines_walked}

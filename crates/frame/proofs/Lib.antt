@@ -1,0 +1,4 @@
+pub mod Encoding
+pub mod Message
+pub mod Reading
+pub mod Slots

@@ -1,0 +1,4 @@
+pub mod Count
+pub mod Pairs
+pub mod Sets
+pub mod Theorem

@@ -1,0 +1,5 @@
+pub mod Changes
+pub mod Idle
+pub mod Kept
+pub mod Laws
+pub mod Running

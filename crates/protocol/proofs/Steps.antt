@@ -1,0 +1,15 @@
+pub mod Answers
+pub mod Broadcasts
+pub mod Calls
+pub mod Cases
+pub mod Certified
+pub mod Checks
+pub mod Decided
+pub mod First
+pub mod Laws
+pub mod Leading
+pub mod Life
+pub mod Memory
+pub mod Output
+pub mod Refusals
+pub mod Sizes

@@ -1,0 +1,5 @@
+pub mod Begins
+pub mod Continues
+pub mod Effects
+pub mod Laws
+pub mod Whole

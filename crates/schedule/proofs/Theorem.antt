@@ -1,0 +1,4 @@
+pub mod Histories
+pub mod Lines
+pub mod Agrees
+pub mod States
