@@ -20,10 +20,12 @@ pub struct Item {
     pub constructors: Vec<String>,
 }
 
-/// `use Rattle.CRATE.specs.PATH.{NAME, NAME as OTHER}`, or `use Rattle.CRATE.specs.PATH as ALIAS`.
+/// `use Rattle.CRATE.specs.PATH.{NAME, NAME as OTHER}`, or `use Rattle.CRATE.specs.PATH as ALIAS`; `proofs` in place of `specs` likewise.
 pub struct Import {
     pub krate: String,
-    /// Behind `specs`.
+    /// `specs` or `proofs`
+    pub part: String,
+    /// Behind that.
     pub path: Vec<String>,
     /// The name here, and the name there.
     pub names: Vec<(String, String)>,
@@ -39,10 +41,16 @@ pub struct Module {
     pub library: Vec<String>,
 }
 
-/// Every module below the crates' specs/, by its path.
+/// Every module of definitions and lemmas, by its path: those below the crates' specs/, and below proofs/ what is not of one function.
 pub fn modules() -> BTreeMap<String, Module> {
-    let files = below("crates", ".antt").into_iter().filter(|file| file.path.contains("/specs/"));
+    let files = below("crates", ".antt").into_iter().filter(|file| has_lemmas(&file.path));
     files.map(|file| (below_crates(&file.path).to_string(), module_of(&file))).collect()
+}
+
+/// `crates/NAME/proofs/function/Answers.antt` has none.
+fn has_lemmas(path: &str) -> bool {
+    let in_proofs = path.split_once("/proofs/").map(|(_, rest)| rest);
+    path.contains("/specs/") || in_proofs.is_some_and(|rest| rest.split('/').all(|part| part.starts_with(char::is_uppercase)))
 }
 
 fn module_of(file: &File) -> Module {
@@ -171,13 +179,14 @@ pub fn import_of(text: &str) -> Option<Import> {
     if LIBRARY.contains(&krate.as_str()) {
         return None;
     }
-    let path = segments.skip_while(|&segment| segment != "specs").skip(1).map(str::to_string).collect();
+    let part = segments.next()?.to_string();
+    let path = segments.map(str::to_string).collect();
     let pair = |name: &str| match name.split_once(" as ") {
         Some((there, here)) => (here.trim().to_string(), there.trim().to_string()),
         None => (name.trim().to_string(), name.trim().to_string()),
     };
     let names = names.split(',').map(pair).filter(|(here, _)| !here.is_empty()).collect();
-    Some(Import { krate, path, names, alias })
+    Some(Import { krate, part, path, names, alias })
 }
 
 /// The names in a line: `M.a`, which may be the field `a` of `M`, stays whole, `(f x).a` has f and x, `λ x.` has x.
@@ -235,6 +244,13 @@ module _ (n : ℕ) where
         assert_eq!(imports.len(), 2);
         assert_eq!(imports[0].names, [("bit", "bit"), ("total", "sum")].map(|(here, there)| (here.to_string(), there.to_string())));
         assert_eq!((imports[1].path.join("/").as_str(), imports[1].alias.as_deref()), ("declared/Base", Some("records")));
+    }
+
+    #[test]
+    fn lemmas_stand_in_specs_and_beside_the_functions_of_proofs() {
+        let paths =
+            ["a/specs/Steps.antt", "a/proofs/Steps/Answers.antt", "a/proofs/text/of_base/Answers.antt", "a/proofs/Base/new/Answers.antt"];
+        assert_eq!(paths.map(has_lemmas), [true, true, false, false]);
     }
 
     #[test]

@@ -181,7 +181,7 @@ impl World {
                 Some(place(&format!("{}/src/{source}.rt", import.krate), last)).filter(|found| self.types.contains_key(found))
             }
             _ => {
-                let file = format!("{}/specs/{}.antt", import.krate, import.path.join("/"));
+                let file = format!("{}/{}/{}.antt", import.krate, import.part, import.path.join("/"));
                 self.declared(self.modules.get(&file)?, name)
             }
         }
