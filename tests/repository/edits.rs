@@ -26,6 +26,9 @@ const NAMES_ALONE: &str = "only because a proof file names what the edit took aw
 const MISFITS: [&str; 6] =
     ["has no field", "has no `", "is not in scope", "is applied to an argument", "give that argument by adding", "was not determined"];
 
+/// What stands on a declaration that is refused is refused with it.
+const FOLLOWS: [&str; 2] = ["was not admitted", "which was rejected"];
+
 pub fn check() -> Result<String, Vec<String>> {
     let there = there();
     let promises = text_of("docs/PROMISES.md").map_err(|error| vec![error])?;
@@ -99,7 +102,8 @@ fn tried(line: &str) -> Option<(Edit, &str)> {
 fn misfit(what: &str) -> Option<String> {
     let Some(point) = what.strip_prefix(REFUSED) else { return Some(format!("is not refused: {what}")) };
     let error = point.split_once(": error: ").map(|(_, error)| error);
-    let fits = |error: &str| error.starts_with('`') && !MISFITS.iter().any(|words| error.contains(words));
+    let says = |error: &str, phrases: &[&str]| phrases.iter().any(|words| error.contains(words));
+    let fits = |error: &str| says(error, &FOLLOWS) || (error.starts_with('`') && !says(error, &MISFITS));
     let shows = !point.contains(NAMES_ALONE) && error.is_none_or(fits);
     (!shows).then(|| format!("is refused by a misfit{point}"))
 }
@@ -121,6 +125,7 @@ mod tests {
         for fact in [
             "note: src/lib.rt:66:1: it is not proved that what the function ensures holds when it returns (`returns`)",
             "./proofs/one/Answers.antt:13:14: error: `returns`: expected type `a`, but this has type `b`",
+            "./proofs/Steps/Laws.antt:30:5: error: 1 declaration that depends on `parts_whole`, which was rejected, was not checked: sums_whole",
         ] {
             assert_eq!(of(&format!("{refused}: {fact}")), None);
         }
