@@ -12,7 +12,9 @@ use Rattle.events.specs.Events.{forged_to}
 use Rattle.event_lines.proofs.forge_bytes.Goals as goal
 
 pub slice_bounds-bytes-end : goal.slice_bounds-bytes-end
-slice_bounds-bytes-end c = room (c)
+slice_bounds-bytes-end c =
+    let a = c.args in
+    omega (arith, c.requires.0, ap length c.hex_array-bytes.ensures, length_hex a.s.now a.at a.count)
 
 pub slice_bounds-forge-end : goal.slice_bounds-forge-end
 slice_bounds-forge-end c = let room : c.args.count ≤ length c.hex_array-bytes.result = omega (arith, c.requires.0, ap length c.hex_array-bytes.ensures, length_hex c.args.s.now c.args.at c.args.count) in
