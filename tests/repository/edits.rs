@@ -125,7 +125,7 @@ mod tests {
         for fact in [
             "note: src/lib.rt:66:1: it is not proved that what the function ensures holds when it returns (`returns`)",
             "./proofs/one/Answers.antt:13:14: error: `returns`: expected type `a`, but this has type `b`",
-            "./proofs/Steps/Laws.antt:30:5: error: 1 declaration that depends on `parts_whole`, which was rejected, was not checked: sums_whole",
+            "./proofs/Laws.antt:30:5: error: 1 declaration that depends on `parts_whole`, which was rejected, was not checked: sums",
         ] {
             assert_eq!(of(&format!("{refused}: {fact}")), None);
         }
