@@ -5,11 +5,11 @@
  * schedule; docs/FAULTY-SETS.md shows how a net is tried under each set of faulty links; docs/AIRTIME.md says how much of a channel the
  * frames take.
  *
- * Linking. A base's calls are in libroster_c.a (`rt staticlib roster_c` writes it to target/staticlib/). What a base in the field does not
- * need stands apart: roster_replay is in libreplay.a (`rt staticlib replay`), the calls on sets of faulty links, roster_faulty_count,
- * roster_faulty_set and roster_faulty_text, in libfaulty_c.a (`rt staticlib faulty_c`). None needs another, and one program may link all.
+ * Linking. A base's calls are in libroster_c.a (`tools/built roster_c` writes it to target/staticlib/). What a base in the field does not
+ * need stands apart: roster_replay is in libreplay.a (`tools/built replay`), the calls on sets of faulty links, roster_faulty_count,
+ * roster_faulty_set and roster_faulty_text, in libfaulty_c.a (`tools/built faulty_c`). None needs another, and one program may link all.
  * They are for x86-64 with the System V calling convention: the stack is aligned to 16 bytes at a call, SSE2 is on, and the 128 bytes
- * below the stack pointer are in use (an interrupt needs a stack of its own); the kit builds for no other machine. They take memcpy
+ * below the stack pointer are in use (an interrupt needs a stack of its own); they are built for no other machine. They take memcpy
  * from the platform, libroster_c.a also memset, libreplay.a also memset and memmove, and nothing else: no other library, no heap, no state
  * of their own. Different records may be used by different threads at the same time. Where the compiler lays the structs out otherwise
  * (-fpack-struct), this header does not compile.

@@ -3,6 +3,9 @@
 use crate::files::{below, below_crates, File};
 use std::collections::BTreeMap;
 
+/// The kit's library, beside the crates.
+const LIBRARY: [&str; 2] = ["core", "std"];
+
 /// Something that a file declares, with its clauses.
 pub struct Item {
     pub name: String,
@@ -17,10 +20,12 @@ pub struct Item {
     pub constructors: Vec<String>,
 }
 
-/// `use Rattle·CRATE.specs.PATH.{NAME, NAME as OTHER}`, or `use Rattle·CRATE.specs.PATH as ALIAS`.
+/// `use Rattle.CRATE.specs.PATH.{NAME, NAME as OTHER}`, or `use Rattle.CRATE.specs.PATH as ALIAS`; `proofs` in place of `specs` likewise.
 pub struct Import {
     pub krate: String,
-    /// Behind `specs`.
+    /// `specs` or `proofs`
+    pub part: String,
+    /// Behind that.
     pub path: Vec<String>,
     /// The name here, and the name there.
     pub names: Vec<(String, String)>,
@@ -36,10 +41,16 @@ pub struct Module {
     pub library: Vec<String>,
 }
 
-/// Every module below the crates' specs/, by its path.
+/// Every module of definitions and lemmas, by its path: those below the crates' specs/, and below proofs/ what is not of one function.
 pub fn modules() -> BTreeMap<String, Module> {
-    let files = below("crates", ".antt").into_iter().filter(|file| file.path.contains("/specs/"));
+    let files = below("crates", ".antt").into_iter().filter(|file| has_lemmas(&file.path));
     files.map(|file| (below_crates(&file.path).to_string(), module_of(&file))).collect()
+}
+
+/// `crates/NAME/proofs/function/Answers.antt` has none.
+fn has_lemmas(path: &str) -> bool {
+    let in_proofs = path.split_once("/proofs/").map(|(_, rest)| rest);
+    path.contains("/specs/") || in_proofs.is_some_and(|rest| rest.split('/').all(|part| part.starts_with(char::is_uppercase)))
 }
 
 fn module_of(file: &File) -> Module {
@@ -164,19 +175,23 @@ pub fn import_of(text: &str) -> Option<Import> {
         }
     };
     let mut segments = path.trim().split('.');
-    let krate = segments.next()?.strip_prefix("Rattle·")?.split('·').next()?.to_string();
-    let path = segments.skip_while(|&segment| segment != "specs").skip(1).map(str::to_string).collect();
+    let krate = segments.next().filter(|&first| first == "Rattle").and(segments.next())?.to_string();
+    if LIBRARY.contains(&krate.as_str()) {
+        return None;
+    }
+    let part = segments.next()?.to_string();
+    let path = segments.map(str::to_string).collect();
     let pair = |name: &str| match name.split_once(" as ") {
         Some((there, here)) => (here.trim().to_string(), there.trim().to_string()),
         None => (name.trim().to_string(), name.trim().to_string()),
     };
     let names = names.split(',').map(pair).filter(|(here, _)| !here.is_empty()).collect();
-    Some(Import { krate, path, names, alias })
+    Some(Import { krate, part, path, names, alias })
 }
 
-/// The names in a line: `a .field` has a, `M.a` stays whole, `λ x.` has x.
+/// The names in a line: `M.a`, which may be the field `a` of `M`, stays whole, `(f x).a` has f and x, `λ x.` has x.
 pub fn names_in(line: &str) -> impl Iterator<Item = &str> {
-    let words = line.split(|c: char| c.is_whitespace() || "()[]{};,⌜⌝".contains(c));
+    let words = line.split(|c: char| c.is_whitespace() || "()[]{};,".contains(c));
     words.filter(|word| !word.starts_with('.')).map(|word| word.trim_end_matches('.')).filter(|word| !word.is_empty())
 }
 
@@ -185,10 +200,12 @@ mod tests {
     use super::*;
 
     const TEXT: &str = "-- a comment
-use mathlib.Core.Bool.{Bool}
-use Rattle·counting.specs.Sums.{bit,
-    sum as total}
-use Rattle·protocol·specs.specs.declared.Base as records
+use Rattle.std.specs.Prelude.{Bool, true}
+use Rattle.counting.specs.Sums.{
+  bit,
+  sum as total,
+}
+use Rattle.protocol.specs.declared.Base as records
 pub mod Laws
 
 unfoldable pub twice : ℕ → ℕ
@@ -216,12 +233,13 @@ module _ (n : ℕ) where
         let items = module().items;
         let told: Vec<(&str, bool, usize, usize)> =
             items.iter().map(|item| (item.name.as_str(), item.defines, item.line, item.lines.len())).collect();
-        assert_eq!(told, [("twice", true, 8, 2), ("Answer", true, 11, 2), ("law", false, 15, 3), ("inner", false, 20, 2)]);
+        assert_eq!(told, [("twice", true, 10, 2), ("Answer", true, 13, 2), ("law", false, 17, 3), ("inner", false, 22, 2)]);
         assert_eq!(items[1].constructors, ["yes", "no"]);
     }
 
     #[test]
     fn imports_of_crates_alone() {
+        assert_eq!(module().library, ["use", "Rattle.std.specs.Prelude", "Bool", "true"]);
         let imports = module().imports;
         assert_eq!(imports.len(), 2);
         assert_eq!(imports[0].names, [("bit", "bit"), ("total", "sum")].map(|(here, there)| (here.to_string(), there.to_string())));
@@ -229,8 +247,15 @@ module _ (n : ℕ) where
     }
 
     #[test]
+    fn lemmas_stand_in_specs_and_beside_the_functions_of_proofs() {
+        let paths =
+            ["a/specs/Steps.antt", "a/proofs/Steps/Answers.antt", "a/proofs/text/of_base/Answers.antt", "a/proofs/Base/new/Answers.antt"];
+        assert_eq!(paths.map(has_lemmas), [true, true, false, false]);
+    }
+
+    #[test]
     fn names_without_fields() {
-        let names: Vec<&str> = names_in("sum n (λ b. bit (W .carried a (Nets.at e)))").collect();
-        assert_eq!(names, ["sum", "n", "λ", "b", "bit", "W", "a", "Nets.at", "e"]);
+        let names: Vec<&str> = names_in("sum n (λ b. bit (W.carried a (Nets.at e).first))").collect();
+        assert_eq!(names, ["sum", "n", "λ", "b", "bit", "W.carried", "a", "Nets.at", "e"]);
     }
 }

@@ -79,7 +79,7 @@ impl World {
     }
 
     /// What schedule/specs/Theorem*.antt define, the statement about what each line does, and the definitions in the contract of
-    /// `replay::roster_replay`.
+    /// `roster_replay`.
     fn replay_roots(&self) -> Result<Vec<Place>, String> {
         let theorems = self
             .modules
@@ -89,7 +89,7 @@ impl World {
             .flat_map(|module| module.items.iter().filter(|item| item.defines).map(|item| place(&module.path, &item.name)))
             .collect();
         roots.push(place("schedule/specs/Meaning/Effects.antt", "Effects"));
-        roots.extend(self.contract("replay", "roster_replay")?);
+        roots.extend(self.contract("roster_replay")?);
         Ok(roots)
     }
 
@@ -97,7 +97,7 @@ impl World {
     fn set_roots(&self) -> Result<Vec<Place>, String> {
         let mut roots = vec![place("link_sets/specs/Statement.antt", "EachOnce"), place("set_text/specs/Taken.antt", "SetTaken")];
         for call in ["roster_faulty_count", "roster_faulty_set", "roster_faulty_text"] {
-            roots.extend(self.contract("faulty_c", call)?);
+            roots.extend(self.contract(call)?);
         }
         Ok(roots)
     }
@@ -107,17 +107,19 @@ impl World {
         let statement = "protocol/specs/Airtime/Statement.antt";
         let mut roots = vec![place(statement, "Airtime"), place(statement, "RecordTells")];
         for call in ["roster_start", "roster_arrive", "roster_write"] {
-            roots.extend(self.contract("roster_c", call)?);
+            roots.extend(self.contract(call)?);
         }
         Ok(roots)
     }
 
     /// The definitions that the contract of an exported call names.
-    fn contract(&self, krate: &str, call: &str) -> Result<Vec<Place>, String> {
-        let code = text_of(&format!("crates/{krate}/src/lib.rt"))?;
-        let imports: Vec<Import> = code.lines().filter_map(|line| import_of(line.strip_prefix("ghost ")?.trim_end_matches(';'))).collect();
-        let found = code.split_once(&format!("fn {call}(")).and_then(|(_, rest)| rest.split_once("\n{"));
-        let (contract, _) = found.ok_or(format!("{krate}::{call} is not found"))?;
+    fn contract(&self, call: &str) -> Result<Vec<Place>, String> {
+        let head = format!("pub extern \"C\" fn {call}(");
+        let file = below("crates", "/src/lib.rt").into_iter().find(|file| file.text.contains(&head));
+        let code = file.ok_or(format!("no crate exports {call}"))?.text;
+        let imports: Vec<Import> = code.split(';').filter_map(|part| import_of(part.split_once("ghost ")?.1)).collect();
+        let found = code.split_once(&head).and_then(|(_, rest)| rest.split_once("\n{"));
+        let (contract, _) = found.ok_or(format!("{call} has no contract"))?;
         Ok(names_in(contract).filter_map(|name| self.imported(&imports, name)).collect())
     }
 
@@ -151,7 +153,7 @@ impl World {
 
     /// What a name means in a module: its own, or one brought in.
     fn resolved(&self, module: &Module, name: &str) -> Option<Place> {
-        self.declared(module, name).or_else(|| self.imported(&module.imports, name))
+        self.declared(module, of_field(name)).or_else(|| self.imported(&module.imports, name))
     }
 
     /// A constructor stands for its data.
@@ -163,8 +165,8 @@ impl World {
     fn imported(&self, imports: &[Import], name: &str) -> Option<Place> {
         imports.iter().find_map(|import| {
             let there = match (&import.alias, name.split_once('.')) {
-                (Some(alias), Some((before, there))) if before == alias => there,
-                _ => &import.names.iter().find(|(here, _)| here == name)?.1,
+                (Some(alias), Some((before, there))) if before == alias => of_field(there),
+                _ => &import.names.iter().find(|(here, _)| here == of_field(name))?.1,
             };
             self.there(import, there)
         })
@@ -173,13 +175,13 @@ impl World {
     fn there(&self, import: &Import, name: &str) -> Option<Place> {
         match import.path.split_first() {
             Some((first, rest)) if first == "declared" => {
-                let path: Vec<&str> = rest.iter().map(String::as_str).filter(|&segment| segment != "the-variants").collect();
+                let path: Vec<&str> = rest.iter().map(String::as_str).filter(|&segment| segment != "TheVariants").collect();
                 let (last, folders) = path.split_last()?;
                 let source = if folders.is_empty() { "lib".to_string() } else { folders.join("/") };
                 Some(place(&format!("{}/src/{source}.rt", import.krate), last)).filter(|found| self.types.contains_key(found))
             }
             _ => {
-                let file = format!("{}/specs/{}.antt", import.krate, import.path.join("/"));
+                let file = format!("{}/{}/{}.antt", import.krate, import.part, import.path.join("/"));
                 self.declared(self.modules.get(&file)?, name)
             }
         }
@@ -189,6 +191,11 @@ impl World {
         let lines: usize = reached.iter().map(|one| self.lines(one).len()).sum();
         format!("{what} {} definitions of {lines} lines", reached.len())
     }
+}
+
+/// `a` of `a.field`
+fn of_field(name: &str) -> &str {
+    name.split('.').next().unwrap_or_default()
 }
 
 fn same_crate(one: &str, other: &str) -> bool {

@@ -1,7 +1,10 @@
-//! What the papers cite is there: each path, each function, and each definition or lemma that stands between backticks.
+//! What the papers cite is there: each path, each function, and each definition or lemma that stands between backticks. Functions, crates
+//! and edits are written as definitions are, so a word between backticks may be the name of any of these.
 
 use crate::antt::modules;
+use crate::edits;
 use crate::files::{below, crate_names, text_of, File};
+use crate::names::function_name;
 use crate::tables::backticked;
 use std::collections::BTreeSet;
 
@@ -12,6 +15,8 @@ struct Known {
     code: Vec<File>,
     /// Definitions, lemmas, constructors and fields.
     names: BTreeSet<String>,
+    /// Crates, edits, functions of the code, and what include/ has for C and Rust.
+    others: BTreeSet<String>,
 }
 
 pub fn check() -> Result<String, Vec<String>> {
@@ -46,7 +51,16 @@ fn known() -> Result<Known, String> {
         }
         names.extend(module.library.iter().cloned());
     }
-    Ok(Known { paths, crates: crate_names()?, code: below("crates", ".rt"), names })
+    let (crates, code) = (crate_names()?, below("crates", ".rt"));
+    let functions = code.iter().flat_map(|file| file.text.lines()).filter_map(function_name);
+    let mut others: BTreeSet<String> = functions.map(str::to_string).chain(crates.iter().cloned()).collect();
+    others.extend(edits::there().into_iter().map(|(_, name)| name));
+    others.extend(below("include", "").iter().flat_map(|file| words_of(&file.text)).map(str::to_string));
+    Ok(Known { paths, crates, code, names, others })
+}
+
+fn words_of(text: &str) -> impl Iterator<Item = &str> {
+    text.split(|c: char| !c.is_alphanumeric() && c != '_')
 }
 
 /// `  pub NAME : ..` of a record, or of a lemma within another
@@ -69,10 +83,10 @@ impl Known {
         if word.contains('/') {
             return Some(self.has_path(word));
         }
-        let inside = |c: char| c.is_alphanumeric() || c == '-';
+        let inside = |c: char| c.is_alphanumeric() || c == '-' || c == '_';
         let name = word.starts_with(|c: char| c.is_ascii_lowercase()) && word.chars().all(inside);
-        let citation = name && (word.contains('-') || word.contains(|c: char| c.is_ascii_uppercase()));
-        citation.then(|| self.names.contains(word))
+        let citation = name && (word.contains(['-', '_']) || word.contains(|c: char| c.is_ascii_uppercase()));
+        citation.then(|| self.names.contains(word) || self.others.contains(word))
     }
 
     fn has_path(&self, word: &str) -> bool {

@@ -6,22 +6,28 @@
 
 use crate::files::{below, text_of};
 use crate::tables::{backticked, tables};
-use std::collections::BTreeSet;
+use std::collections::{BTreeMap, BTreeSet};
 
 /// A crate and the name of an edit of it.
 type Edit = (String, String);
 
+/// What `rt ci` printed when `tests/all` ran it last: of each edit one line, `rt: must-fail CRATE/NAME.edit: ..`. It has the first point at
+/// which the edit is refused, and not what else is.
+const LOG: &str = "target/tests/ci.log";
+
+/// How that line goes on where the edit is refused.
+const REFUSED: &str = "refused, as it must be";
+
+/// What rt adds where nothing but the names in proof files is refused: the edit changed the code's shape, and shows nothing.
+const NAMES_ALONE: &str = "only because a proof file names what the edit took away";
+
 /// What the prover says of a proof that no longer fits the code, where the edit changed the code's shape, and of a name that is nowhere.
 /// Such an edit shows nothing.
 const MISFITS: [&str; 6] =
-    ["has no field", "has no `Need-", "is not in scope", "is applied to an argument", "give that argument by adding", "was not determined"];
-
-/// What a step of a proof says that finds nothing to rewrite in the goal. Where every step that is refused says so, no goal was left open,
-/// and the edit shows nothing either.
-const NO_PLACE: [&str; 2] = ["no occurrence of", "no equation of the list has an instance"];
+    ["has no field", "has no `", "is not in scope", "is applied to an argument", "give that argument by adding", "was not determined"];
 
 /// What stands on a declaration that is refused is refused with it.
-const FOLLOWS: &str = "was not admitted";
+const FOLLOWS: [&str; 2] = ["was not admitted", "which was rejected"];
 
 pub fn check() -> Result<String, Vec<String>> {
     let there = there();
@@ -37,7 +43,7 @@ pub fn check() -> Result<String, Vec<String>> {
     }
 }
 
-fn there() -> BTreeSet<Edit> {
+pub fn there() -> BTreeSet<Edit> {
     let edits = below("crates", ".edit");
     let parts = edits.iter().filter_map(|file| file.path.strip_prefix("crates/")?.strip_suffix(".edit")?.split_once("/must-fail/"));
     parts.map(|(krate, name)| (krate.to_string(), name.to_string())).collect()
@@ -67,20 +73,16 @@ fn told(page: &str) -> Vec<Edit> {
     names.map(|name| ("protocol".to_string(), name.to_string())).collect()
 }
 
-/// Every edit has been tried, and none was refused by a misfit.
+/// Every edit has been tried and is refused, and none by a misfit.
 pub fn check_tried() -> Result<String, Vec<String>> {
-    let (mut wrong, mut untried) = (Vec::new(), 0);
+    let log = text_of(LOG).unwrap_or_default();
+    let said: BTreeMap<Edit, &str> = log.lines().filter_map(tried).collect();
     let there = there();
-    for (krate, name) in &there {
-        match text_of(&format!("target/must-fail/{krate}/{name}/.log")) {
-            Ok(log) => {
-                wrong.extend(misfit(&log).map(|what| format!("{name} of {krate} is refused by a misfit: {what}")));
-            }
-            Err(_) => untried += 1,
-        }
-    }
+    let untried = there.iter().filter(|edit| !said.contains_key(edit)).count();
+    let said = there.iter().filter_map(|edit| Some((edit, said.get(edit)?)));
+    let mut wrong: Vec<String> = said.filter_map(|((krate, name), what)| Some(format!("{name} of {krate} {}", misfit(what)?))).collect();
     if untried > 0 {
-        wrong.push(format!("{untried} edits have not been tried here; rt ci tries them"));
+        wrong.push(format!("{untried} edits have not been tried here; tests/all lets rt ci try them"));
     }
     match wrong.is_empty() {
         true => Ok(format!("{} edits tried, none refused by a misfit", there.len())),
@@ -88,39 +90,61 @@ pub fn check_tried() -> Result<String, Vec<String>> {
     }
 }
 
-/// The first misfit that a log tells. An error that begins with no declaration's name is that of a text which cannot be read, or of a proof
-/// that finds nothing to prove; code that the compiler refuses is told by rt itself.
-fn misfit(log: &str) -> Option<&str> {
-    let errors = log.lines().filter_map(|line| Some(line.split_once(": error: ")?.1));
-    let refused: Vec<&str> = errors.filter(|what| !what.contains(FOLLOWS)).collect();
-    let says = |what: &str, phrases: &[&str]| phrases.iter().any(|words| what.contains(words));
-    let misfit = refused.iter().find(|what| !what.starts_with('`') || says(what, &MISFITS));
-    let placeless = refused.iter().all(|what| says(what, &NO_PLACE));
-    misfit.or(refused.first().filter(|_| placeless)).copied()
+/// The edit of a line of the log, and what is said of it.
+fn tried(line: &str) -> Option<(Edit, &str)> {
+    let (edit, what) = line.strip_prefix("rt: must-fail ")?.split_once(".edit: ")?;
+    let (krate, name) = edit.split_once('/')?;
+    Some(((krate.to_string(), name.to_string()), what))
+}
+
+/// What is wrong, if something is. An error that begins with no declaration's name is that of a text which cannot be read, or of a proof
+/// that finds nothing to prove. Where rt's line has no error it has a note of a goal that is not proved.
+fn misfit(what: &str) -> Option<String> {
+    let Some(point) = what.strip_prefix(REFUSED) else { return Some(format!("is not refused: {what}")) };
+    let error = point.split_once(": error: ").map(|(_, error)| error);
+    let says = |error: &str, phrases: &[&str]| phrases.iter().any(|words| error.contains(words));
+    let fits = |error: &str| says(error, &FOLLOWS) || (error.starts_with('`') && !says(error, &MISFITS));
+    let shows = !point.contains(NAMES_ALONE) && error.is_none_or(fits);
+    (!shows).then(|| format!("is refused by a misfit{point}"))
 }
 
 #[cfg(test)]
 mod tests {
-    use super::misfit;
+    use super::{misfit, tried};
+
+    fn of(what: &str) -> Option<String> {
+        let line = format!("rt: must-fail frame/kind_five.edit: {what}");
+        let (edit, what) = tried(&line).expect("a line of an edit");
+        assert_eq!(edit, ("frame".to_string(), "kind_five".to_string()));
+        misfit(what)
+    }
 
     #[test]
     fn misfits_are_told_from_facts() {
-        let fact = "proofs/least/Proof.antt:8:3: error: `returns`: expected type `a`, but this has type `b`\nlogic=not-proved\n";
-        assert_eq!(misfit(fact), None);
+        let refused = "refused, as it must be";
+        for fact in [
+            "note: src/lib.rt:66:1: it is not proved that what the function ensures holds when it returns (`returns`)",
+            "./proofs/one/Answers.antt:13:14: error: `returns`: expected type `a`, but this has type `b`",
+            "./proofs/Laws.antt:30:5: error: 1 declaration that depends on `parts_whole`, which was rejected, was not checked: sums",
+        ] {
+            assert_eq!(of(&format!("{refused}: {fact}")), None);
+        }
         for what in [
             "`returns`: record `After-put` has no field `write-refusal`",
-            "`add-t12`: `tie.Need-add-t12`: module `Tie` has no `Need-add-t12` that can be named from here",
-            "module `proofs.happen` has no `Tie` that can be named from here",
-            "`ensures-1`: `minn` is not in scope; did you mean `min`?",
-            "`base-whole`: give that argument by adding `{u = …}` after the arguments that come before it in `ap₂`'s type",
+            "module `proofs.happen` has no `Goals` that can be named from here",
+            "`returns`: `minn` is not in scope; did you mean `min`?",
+            "`base_whole`: give that argument by adding `{u = ..}` after the arguments that come before it in `ap`'s type",
             "this line starts at column 1, but the `(` opened at 49:36 is still open",
         ] {
-            assert_eq!(misfit(&format!("{fact}specs/Lists.antt:49:36: error: {what}\n")), Some(what));
+            let point = format!(": ./specs/Lists.antt:49:36: error: {what}");
+            assert_eq!(of(&format!("{refused}{point}")), Some(format!("is refused by a misfit{point}")));
         }
-        let placeless = "`returns-2`: `rw`: no occurrence of the path's left endpoint in the goal";
-        let follows = "`two-spec`: `returns-2` was not admitted";
-        let log = format!("proofs/two/Proof.antt:9:3: error: {placeless}\nproofs/two/Proof.antt:20:5: error: {follows}\n");
-        assert_eq!(misfit(&log), Some(placeless));
-        assert_eq!(misfit(&format!("{log}{fact}")), None);
+        let names = " (only because a proof file names what the edit took away, so this says little): ./proofs/f/Answers.antt:1:1";
+        assert_eq!(of(&format!("{refused}{names}")), Some(format!("is refused by a misfit{names}")));
+        assert_eq!(
+            of("NOT REFUSED: the crate is still proved"),
+            Some("is not refused: NOT REFUSED: the crate is still proved".to_string())
+        );
+        assert_eq!(tried("rt: frame proved"), None);
     }
 }

@@ -1,6 +1,6 @@
 //! One name a thing: no definition, lemma, struct, enum or function of the crates has the name of another, public or not, and no public
 //! constant that of another. Fields and constructors do not count, nor what is private in an anonymous module, nor a program's `main`. A
-//! public function that has a definition's name, in the code's way of writing it, cites that definition.
+//! public function that has a definition's name cites that definition. An exported function that only hands on to a library's has its name.
 
 use crate::antt::modules;
 use crate::believed::type_name;
@@ -30,9 +30,9 @@ pub fn check() -> Result<String, Vec<String>> {
             };
             put(&mut things, type_name(line));
             put(&mut constants, constant_name(line));
-            put(&mut functions, function_name(line));
+            put(&mut functions, function_name(line).filter(|name| !hands_on(line, name, &file.text)));
             let public = function_name(line).filter(|_| line.starts_with("pub fn ") || line.starts_with("pub extern "));
-            let other = public.filter(|name| definitions.contains(&in_antt(name)) && !cites(&file.text, name, &in_antt(name)));
+            let other = public.filter(|name| definitions.contains(in_antt(name)) && !cites(&file.text, name, in_antt(name)));
             wrong.extend(other.map(|name| format!("{name} at {} has the name of a definition that it does not cite", place())));
         }
     }
@@ -50,9 +50,16 @@ pub fn check() -> Result<String, Vec<String>> {
 }
 
 /// `fn NAME(`, `pub(crate) fn NAME<`, `pub extern "C" fn NAME(`
-fn function_name(line: &str) -> Option<&str> {
+pub fn function_name(line: &str) -> Option<&str> {
     let (before, rest) = line.trim_start().split_once("fn ")?;
     rest.split(['(', '<']).next().filter(|name| (before.is_empty() || before.starts_with("pub")) && *name != "main")
+}
+
+/// `pub extern "C" fn NAME(`, of which a line is `CRATE::NAME(..)`
+fn hands_on(line: &str, name: &str, text: &str) -> bool {
+    let call = format!("::{name}(");
+    line.starts_with("pub extern ")
+        && text.lines().any(|line| line.trim_start().split_once(&call).is_some_and(|(krate, _)| !krate.contains(' ')))
 }
 
 /// `pub const NAME: `
@@ -60,18 +67,16 @@ fn constant_name(line: &str) -> Option<&str> {
     line.trim_start().strip_prefix("pub const ")?.split(':').next()
 }
 
-/// `the_name` is `theName` in antt.
-fn in_antt(name: &str) -> String {
-    let mut words = name.split('_').filter(|word| !word.is_empty());
-    let first = words.next().unwrap_or_default().to_string();
-    words.fold(first, |found, word| found + &word[..1].to_uppercase() + &word[1..])
+/// Whatever stands in front of its words.
+fn in_antt(name: &str) -> &str {
+    name.trim_start_matches('_')
 }
 
 /// Whether the contract of a function of a file names a definition.
 fn cites(text: &str, function: &str, definition: &str) -> bool {
     let found = text.split_once(&format!("fn {function}(")).or_else(|| text.split_once(&format!("fn {function}<")));
     let contract = found.and_then(|(_, rest)| rest.split_once("\n{")).map_or("", |(contract, _)| contract);
-    contract.split(|c: char| !c.is_alphanumeric()).any(|word| word == definition)
+    contract.split(|c: char| !c.is_alphanumeric() && c != '_').any(|word| word == definition)
 }
 
 #[cfg(test)]
@@ -87,10 +92,10 @@ mod tests {
 
     #[test]
     fn a_functions_contract_cites_the_definition_of_its_name() {
-        assert_eq!(["tally_sum", "leader", "_one_more"].map(in_antt), ["tallySum", "leader", "oneMore"]);
+        assert_eq!(["tally_sum", "leader", "_one_more"].map(in_antt), ["tally_sum", "leader", "one_more"]);
         assert_eq!(["pub const ONE: u8 = 1;", "const TWO: u8 = 2;"].map(constant_name), [Some("ONE"), None]);
-        let code = "use other::tallySum;\npub fn tally_sum(b: Base) -> usize\n    ensures { r ≡ tallySum b }\n{\n    tally\n}\n";
-        assert!(cites(code, "tally_sum", "tallySum"));
+        let code = "use other::tally;\npub fn tally_sum(b: Base) -> usize\n    ensures { result ≡ tally_sum b }\n{\n    tally\n}\n";
+        assert!(cites(code, "tally_sum", "tally_sum"));
         assert!(!cites(code, "tally_sum", "tally"));
     }
 }

@@ -1,7 +1,7 @@
 #!/usr/bin/env python3
-"""Brings the names of this repository's definitions, lemmas, fields and constructors to snake case, behind the kit's port.py, which respells
-only some. Run once, at the top. Types and facts keep their capitals, functions of src/, exported names and strings theirs. A lemma whose
-name falls together with that of a definition gets `_lem` at its end. The names, old and new, go to tools/port/names.tsv.
+"""Brings the names of this repository's definitions, lemmas, fields and constructors to snake case, behind the kit's port.py, which
+respells only some. Run once, at the top. Types and facts keep their capitals, functions of src/, exported names and strings theirs. A lemma
+whose name falls together with that of a definition gets `_lem` at its end. The names, old and new, go to tools/port/names.tsv.
 
 usage: respell.py            in crates/: specs/, proofs/ and the clauses of src/
        respell.py pages      in README.md, docs/ and must-fail/, by names.tsv: words in backquotes, and the lines of an edit
@@ -72,7 +72,8 @@ def tables():
         if path.endswith(".antt") and not is_walk(path):
             declared |= {m.group(1) for m in map(DECLARED.match, text.splitlines()) if m}
             used |= set(TOKEN.findall(without_comments(text)))
-    binders = {n for n in used if n[0].islower() and OLD.search(n)} - declared - library - {"false-name", "not-nil", "obs-res"}  # of the library
+    of_library = {"false-name", "not-nil", "obs-res"}
+    binders = {n for n in used if n[0].islower() and OLD.search(n)} - declared - library - of_library
     old = {n for n in declared if n[0].islower() and OLD.search(n)} - library
     by_new = collections.defaultdict(set)
     for name in old | {n for n in declared if n[0].islower() and not OLD.search(n)}:

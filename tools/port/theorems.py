@@ -159,7 +159,7 @@ def declare(crate, module):
     head, uses, rest = [], [], text
     lines = text.split("\n") if text else []
     i = 0
-    while i < len(lines) and (lines[i].startswith(("--", "use ")) or lines[i].startswith("pub mod") or lines[i].startswith("    ") and "}" in lines[i]):
+    while i < len(lines) and (lines[i].startswith(("--", "use ", "pub mod")) or lines[i].startswith("    ") and "}" in lines[i]):
         i += 1
     lines.insert(i, line)
     write(path, "\n".join(lines).rstrip("\n") + "\n")
