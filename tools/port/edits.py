@@ -27,6 +27,10 @@ CAMEL = re.compile(r"[a-z][a-z0-9]*[A-Z]\w*$")
 BY_HAND = {
     # the names of goals are of the condition's words, and proof files cite them
     "frame/any_count": [("src/kind.rt", "    if count != held {", "    let count = held; if count != held {")],
+    # likewise: the digits behind a zero are read as those behind another digit
+    "text/zero_before_a_number": [
+        ("src/number.rt", "        return Number::Value(0, at + 1);", "        return digits_from(s, at + 1, 0);"),
+    ],
     # today one import has both names of `limits`
     "faulty_sets/seven_bases": [
         ("src/lib.rt", "use limits::{SMALL_BASES, size_refusal};", "use limits::size_refusal; const SMALL_BASES: usize = 7;"),

@@ -37,6 +37,18 @@ def files(ends):
                 yield os.path.join(folder, name)
 
 
+# Names that fall together with those of another crate: file, name, new name.
+APART = [
+    ("crates/hexadecimal/specs/Hex/Laws.antt", "from_end", "hex_at_end"),
+    ("crates/hexadecimal/proofs/hex_from/Proof.antt", "from_end", "hex_at_end"),
+    ("crates/sorting/specs/Insertion/Laws.antt", "holds_of", "listed_holds"),
+    ("crates/text/specs/Number/Laws.antt", "number_digits", "number_of_digits"),
+    ("crates/text/proofs/number/number_at/Proof.antt", "number_digits", "number_of_digits"),
+    ("crates/protocol/specs/Agreement/Outer/Frames.antt", "frame_at", "frame_encoded"),
+    ("crates/protocol/specs/Agreement/Outer/Refusals.antt", "frame_at", "frame_encoded"),
+]
+
+
 def read(path):
     with open(path, encoding="utf-8") as f:
         return f.read()
@@ -112,6 +124,8 @@ def crates():
         new = replaced(new, {o: n for o, n in turn.items() if o not in local}, walk, False)
         if new != text:
             write(path, new)
+    for path, old, new in APART:
+        write(path, re.sub(rf"\b{old}\b", new, read(path)))
     camel = {o: n for o, n in turn.items() if re.search("[A-Z]", o)}
     for path in files(".rt"):
         text = read(path)

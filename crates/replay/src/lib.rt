@@ -1,5 +1,5 @@
-// One call from a schedule's bytes to the report: the state of every base at the end, or the first line that is turned down. C calls it too,
-// by `replay_c`.
+// One call from a schedule's bytes to the report: the state of every base at the end, or the first line that is turned down. C calls it
+// too, by `replay_c`.
 
 #![tactic(auto)]
 

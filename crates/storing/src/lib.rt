@@ -10,7 +10,9 @@ use c_answers::{CallAnswer, outcome_numbers};
 use change::{Change, changed_base};
 use protocol::Base;
 
-// The record with the change made; the answer in numbers.
+// The record with the change made; the answer in numbers. A function of its own also when it runs, so that the changed record takes no room
+// on the stack while the engine works.
+#[inline(never)]
 pub fn store(base: &mut Base, change: Change) -> CallAnswer
     ensures { (result ≡ outcome_numbers change.outcome) × (base.new ≡ changed_base base.old change) }
 {

@@ -3,7 +3,7 @@
 use native.Mathlib.Omega.{arith}
 use Prim.Native.Nat.{◌-◌}
 use mathlib.Core.Path.{refl, sym, ◌∙◌}
-use Rattle.hexadecimal.specs.Hex.Laws.{pair_inside, from_end, from_feed, from_pair, from_other}
+use Rattle.hexadecimal.specs.Hex.Laws.{pair_inside, hex_at_end, from_feed, from_pair, from_other}
 use Rattle.hexadecimal.proofs.hex_from.Goals as goal
 
 pub loop-i-init : goal.loop-i-init
@@ -31,4 +31,4 @@ returns-else-is_pair c =
     sym (c.loop-i.invariant.1 ∙ from_other _ _ _ loop-test.true c.if-s-i-eq10.false (sym c.is_pair.ensures ∙ c.if-is_pair.false))
 
 pub returns : goal.returns
-returns c = sym (c.loop-i.invariant.1 ∙ from_end _ _ _ c.loop-i-test.false)
+returns c = sym (c.loop-i.invariant.1 ∙ hex_at_end _ _ _ c.loop-i-test.false)

@@ -14,9 +14,9 @@ drop_two s i h =
     drop_one s i (omega arith) ∙ ap (λ (l : List ℕ). get_or s i 0 ∷ l) (drop_one s (i + 1) h ∙ ap (λ (k : ℕ). get_or s (i + 1) 0 ∷ drop k s) e)
 
 -- ---- the walk over the pairs
-pub from_end : (s : List ℕ) (i k : ℕ) → length s ≤ i → hex_from (drop i s) k i ≡ Bad
+pub hex_at_end : (s : List ℕ) (i k : ℕ) → length s ≤ i → hex_from (drop i s) k i ≡ Bad
 unfolding hex_from
-from_end s i k h = rw (drop_of_length-le s h)
+hex_at_end s i k h = rw (drop_of_length-le s h)
 
 feed_ends : (a : ℕ) (rest : List ℕ) (k p : ℕ) → a ≡ 10 → hex_from (a ∷ rest) k p ≡ Bytes k (p + 1)
 unfolding hex_from

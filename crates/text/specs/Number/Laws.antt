@@ -56,10 +56,10 @@ unfolding number_at number_from is_digit and
 number_zero s i h e =
     ap (λ (l : List ℕ). number_from l i) (drop_one s i h) ∙ ap (λ (b : ℕ). number_from (b ∷ drop (i + 1) s) i) e ∙ (unfold choose in refl)
 
-pub number_digits : (s : List ℕ) (i v : ℕ) → i < length s → is_digit (get_or s i 0) ≡ true → (get_or s i 0 ≡ 48 → ⊥) → v ≡ get_or s i 0 - 48
+pub number_of_digits : (s : List ℕ) (i v : ℕ) → i < length s → is_digit (get_or s i 0) ≡ true → (get_or s i 0 ≡ 48 → ⊥) → v ≡ get_or s i 0 - 48
     → number_at s i ≡ digits_from (drop (i + 1) s) v (i + 1)
 unfolding number_at number_from
-number_digits s i v h e z p =
+number_of_digits s i v h e z p =
     ap (λ (l : List ℕ). number_from l i) (drop_one s i h) ∙ choose_yes _ _ e ∙ choose_no _ _ (ne_eqb (get_or s i 0) 48 z)
     ∙ ap (λ (x : ℕ). digits_from (drop (i + 1) s) x (i + 1)) (sym p)
 

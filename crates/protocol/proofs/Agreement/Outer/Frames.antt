@@ -32,10 +32,10 @@ pub length_encoded : (log : List Message) → length (map encode log) ≡ length
 length_encoded [] = refl
 length_encoded (m ∷ log) = ap suc (length_encoded log)
 
-pub frame_at : (log : List Message) (k : ℕ) → k < length log → get_or (map encode log) k [] ≡ encode (broadcast_at log k)
-frame_at [] k h = absurd (omega arith)
-frame_at (m ∷ log) zero h = refl
-frame_at (m ∷ log) (suc k) h = frame_at log k (omega arith)
+pub frame_encoded : (log : List Message) (k : ℕ) → k < length log → get_or (map encode log) k [] ≡ encode (broadcast_at log k)
+frame_encoded [] k h = absurd (omega arith)
+frame_encoded (m ∷ log) zero h = refl
+frame_encoded (m ∷ log) (suc k) h = frame_encoded log k (omega arith)
 
 pub said_at : (log : List Message) (k : ℕ) → k < length log → Said (broadcast_at log k) log
 said_at [] k h = absurd (omega arith)

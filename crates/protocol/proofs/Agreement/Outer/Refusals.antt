@@ -13,7 +13,7 @@ use Rattle.protocol.specs.Steps.{Done, start_step, start, arrival_step, arrival_
 use Rattle.protocol.proofs.Steps.Refusals.{start_answered, arrival_answered}
 use Rattle.protocol.specs.Net.{Net, Pair, good, carry, forge, broadcast, event_refusal, call_refusal, carried_after}
 use Rattle.protocol.specs.Agreement.Invariant.{broadcast_at}
-use Rattle.protocol.proofs.Agreement.Outer.Frames.{frame_at}
+use Rattle.protocol.proofs.Agreement.Outer.Frames.{frame_encoded}
 
 -- ---- 16: a carry that is not turned down names a message that was broadcast
 pub carry_names_broadcast : (faulty : List Pair) (W : Net) (a b k room : ℕ) → event_refusal faulty W (carry a b k room) ≡ 0
@@ -37,7 +37,7 @@ pub encoded_at : (W : Net) (a k : ℕ) (log : List Message) → W.log a ≡ map 
     → broadcast W a (suc k) ≡ encode (broadcast_at log k)
 unfolding broadcast
 encoded_at W a k log e h = ap₂ (λ (l : List (List ℕ)) (j : ℕ). get_or l j []) {x = W.log a} {y = map encode log} e (before k)
-    ∙ frame_at log k h
+    ∙ frame_encoded log k h
   where
     before : (k : ℕ) → suc k - 1 ≡ k
     before k = omega arith
