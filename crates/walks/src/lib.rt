@@ -1,3 +1,3 @@
-// No code: the steps that the proofs by hand of functions with a lent record share (proofs/).
+// Empty: it had the steps that proofs by hand of functions with a lent record shared. The check finds these proofs itself now.
 
 #![tactic(auto)]
