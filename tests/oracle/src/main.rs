@@ -11,7 +11,7 @@ use std::process::ExitCode;
 
 const USAGE: &str =
     "usage: oracle [seconds] [seed] | faults [name] | starred | stored folder | trace program folder | listed program | bench
-       oracle replay < schedule | twelve | sixteen";
+       oracle replay < schedule | twelve | airtime";
 
 /// Schedules that are made for the trace program, beside the stored ones.
 const MADE_FOR_THE_TRACE: usize = 300;
@@ -40,7 +40,7 @@ fn main() -> ExitCode {
         ["bench"] => bench::run(cfg!(feature = "linked").then_some(engine().as_mut())),
         ["replay"] => replay_input(),
         ["twelve"] => print_schedule(&twelve::history(Fault::None).0),
-        ["sixteen"] => print_schedule(&sixteen::history().0),
+        ["airtime"] => print_schedule(&sixteen::history().0),
         [] => run("20", "1"),
         [seconds] => run(seconds, "1"),
         [seconds, seed] => run(seconds, seed),
