@@ -31,6 +31,44 @@ BY_HAND = {
     "text/zero_before_a_number": [
         ("src/number.rt", "        return Number::Value(0, at + 1);", "        return digits_from(s, at + 1, 0);"),
     ],
+    # the proof that goes with the edited code, so that what refuses the edit is `set_taken`
+    "set_text/higher_base_first": [
+        (
+            "specs/Text.antt",
+            "pair_line p = (field_text faulty_word p.lower ++ field_text (space ∷ []) p.higher) ++ feed",
+            "pair_line p = (field_text faulty_word p.higher ++ field_text (space ∷ []) p.lower) ++ feed",
+        ),
+        (
+            "src/put.rt",
+            '    let first = put_field(out, at, b"faulty ", pair.lower as u64);',
+            '    let first = put_field(out, at, b"faulty ", pair.higher as u64);',
+        ),
+        (
+            "src/put.rt",
+            '    let second = put_field(out, first, b" ", pair.higher as u64);',
+            '    let second = put_field(out, first, b" ", pair.lower as u64);',
+        ),
+        (
+            "proofs/put/put_pair/Answers.antt",
+            "    let t = field_text faulty_word a.pair.lower in",
+            "    let t = field_text faulty_word a.pair.higher in",
+        ),
+        (
+            "proofs/put/put_pair/Answers.antt",
+            "    let u = field_text (space ∷ []) a.pair.higher in",
+            "    let u = field_text (space ∷ []) a.pair.lower in",
+        ),
+        (
+            "proofs/put/put_pair/Answers.antt",
+            "few_field number_digits faulty_word a.pair.lower (omega arith) (below_byte a.pair.lower",
+            "few_field number_digits faulty_word a.pair.higher (omega arith) (below_byte a.pair.higher",
+        ),
+        (
+            "proofs/put/put_pair/Answers.antt",
+            "few_field number_digits (space ∷ []) a.pair.higher (omega arith) (below_byte a.pair.higher",
+            "few_field number_digits (space ∷ []) a.pair.lower (omega arith) (below_byte a.pair.lower",
+        ),
+    ],
     # today one import has both names of `limits`
     "faulty_sets/seven_bases": [
         ("src/lib.rt", "use limits::{SMALL_BASES, size_refusal};", "use limits::size_refusal; const SMALL_BASES: usize = 7;"),
