@@ -27,6 +27,30 @@ CAMEL = re.compile(r"[a-z][a-z0-9]*[A-Z]\w*$")
 BY_HAND = {
     # the names of goals are of the condition's words, and proof files cite them
     "frame/any_count": [("src/kind.rt", "    if count != held {", "    let count = held; if count != held {")],
+    # likewise, each the same program, or one that does the same wrong where the landed one did
+    "lines/base_zero": [
+        ("src/bases.rt", "        return false;", "        return true;"),
+    ],
+    "marks/heard_counted": [
+        ("src/lib.rt", "if !heard_by(node, a, i + 1) {", "if !heard_by(node, a, i + 1) { total += 0; } else {"),
+    ],
+    "event_forms/carry_of_number_zero": [
+        ("src/lib.rt", "    if k < 1 {", "    let given = k; let k: u32 = 1; if k < 1 {"),
+        ("src/lib.rt", "            number: k,", "            number: given,"),
+    ],
+    "bursts/any_distance": [
+        ("src/lib.rt", "    if back != size {", "    let size = back; if back != size {"),
+    ],
+    "carry_refusals/sixteen_for_zero_alone": [
+        ("src/lib.rt", "if broadcasts(sender) < k {", "let given = k; let k: usize = 0; if broadcasts(sender) < k {"),
+        ("src/lib.rt", "if heard_by(receiver, a, k) {", "if heard_by(receiver, a, given) {"),
+    ],
+    "waiting/constant": [
+        ("src/lib.rt", "while a < n {", "let n: usize = 0; while a < n {"),
+    ],
+    "node_arrivals/refused_carry_counted": [
+        ("src/lib.rt", "        return after;", "        return mark(after, a, k);"),
+    ],
     # likewise: the digits behind a zero are read as those behind another digit
     "text/zero_before_a_number": [
         ("src/number.rt", "        return Number::Value(0, at + 1);", "        return digits_from(s, at + 1, 0);"),
