@@ -10,8 +10,8 @@
  * roster_faulty_set and roster_faulty_text, in libfaulty_c.a (`tools/built faulty_c`). None needs another, and one program may link all.
  * They are for x86-64 with the System V calling convention: the stack is aligned to 16 bytes at a call, SSE2 is on, and the 128 bytes
  * below the stack pointer are in use (an interrupt needs a stack of its own); they are built for no other machine. They take memcpy
- * from the platform, libroster_c.a also memset, libreplay.a also memset and memmove, and nothing else: no other library, no heap, no state
- * of their own. Different records may be used by different threads at the same time. Where the compiler lays the structs out otherwise
+ * from the platform, libroster_c.a and libreplay.a also memset, and nothing else: no other library, no heap, no state of their own.
+ * Different records may be used by different threads at the same time. Where the compiler lays the structs out otherwise
  * (-fpack-struct), this header does not compile.
  *
  * What is lent. A call reads and writes what it is lent and nothing else. A record's pointer is never NULL; any other has to be valid for
@@ -102,8 +102,8 @@ extern "C" {
 #define ROSTER_SMALL_SETS (1 + ROSTER_SMALL_PAIRS + ROSTER_SMALL_PAIRS * (ROSTER_SMALL_PAIRS - 1) / 2) /* its sets */
 #define ROSTER_FAULTY_TEXT_ROOM (ROSTER_SMALL_SETS * (25 + 15 * ROSTER_SMALL_FAULTY)) /* bytes to lend to roster_faulty_text */
 
-/* The most stack that a call takes, in bytes, with what its answer takes in the caller and without what memcpy, memset and memmove take,
- * or a dynamic linker at their first call. tests/figures measures it and holds it to this. */
+/* The most stack that a call takes, in bytes, with what its answer takes in the caller and without what memcpy and memset take, or a
+ * dynamic linker at their first call. tests/figures measures it and holds it to this. */
 #define ROSTER_STACK_IDLE 5000
 #define ROSTER_STACK_START 9000
 #define ROSTER_STACK_ARRIVE 10000

@@ -34,8 +34,8 @@ pub const SMALL_PAIRS: usize = SMALL_BASES * (SMALL_BASES - 1) / 2;
 pub const SMALL_SETS: usize = 1 + SMALL_PAIRS + SMALL_PAIRS * (SMALL_PAIRS - 1) / 2;
 pub const FAULTY_TEXT_ROOM: usize = SMALL_SETS * (25 + 15 * SMALL_FAULTY);
 
-/// The most stack that a call takes, in bytes, with what its answer takes in the caller and without what memcpy, memset and memmove
-/// take, or a dynamic linker at their first call.
+/// The most stack that a call takes, in bytes, with what its answer takes in the caller and without what memcpy and memset take, or
+/// a dynamic linker at their first call.
 pub const STACK_IDLE: usize = 5000;
 pub const STACK_START: usize = 9000;
 pub const STACK_ARRIVE: usize = 10000;
