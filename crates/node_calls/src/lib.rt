@@ -23,8 +23,8 @@ pub struct NodeAnswer {
     pub node: Node,
 }
 
-// What a call changed in the record, and what it wrote: a call that is turned down changed and wrote nothing. It is part of its callers when
-// it runs, so that its copies of the node share their room on the stack with theirs.
+// What a call changed in the record, and what it wrote: a call that is turned down changed and wrote nothing. It is part of its callers
+// when it runs, so that its copies of the node share their room on the stack with theirs.
 #[inline(always)]
 fn answered(node: Node, change: Change, out: &[u8]) -> NodeAnswer
     requires { Fitting change.outcome (length out.now) }
