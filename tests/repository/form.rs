@@ -9,8 +9,6 @@ const LONGEST_FUNCTION: usize = 39;
 
 /// Written by people, line by line. A script has no ending, and begins with `#!/`. crates.txt is none of them: it has a line a crate.
 const LANGUAGES: [&str; 8] = [".rt", ".antt", ".rs", ".c", ".h", ".edit", ".about", ".md"];
-/// Of Rattle, with what begins a comment. `rt ci` holds the rest to the layout of `rt fmt`, some of whose lines are as long as they come.
-const LAID_OUT: [(&str, &str); 2] = [(".rt", "//"), (".antt", "--")];
 const FOLDERS: [&str; 8] = [".ci", "crates", "docs", "examples", "include", "schedules", "tests", "tools"];
 
 pub fn check() -> Result<String, Vec<String>> {
@@ -50,13 +48,11 @@ fn is_written(file: &File) -> bool {
 /// A row of a table in a page, and what a program prints, between fences there, cannot be broken.
 fn wide_lines(file: &File) -> Vec<String> {
     let page = file.path.ends_with(".md");
-    let comment = LAID_OUT.iter().find(|(ending, _)| file.path.ends_with(ending)).map(|&(_, begins)| begins);
-    let by_rt = |line: &str| comment.is_some_and(|begins| !line.trim_start().starts_with(begins));
     let (mut fenced, mut found) = (false, Vec::new());
     for (i, line) in file.text.lines().enumerate() {
         fenced ^= page && line.starts_with("```");
         let width = line.chars().count();
-        if width > WIDEST_LINE && !fenced && !by_rt(line) && !(page && line.starts_with('|')) {
+        if width > WIDEST_LINE && !fenced && !(page && line.starts_with('|')) {
             found.push(format!("{}:{}: {width} characters", file.path, i + 1));
         }
     }

@@ -36,5 +36,6 @@ frame_stored kind size ids output after new i e h p q =
     let a : after ≡ over (body ids) output =
     p ∙ ap (λ (l : List ℕ). over (body l) output) (ap (λ (k : ℕ). take k ids) h ∙ take-length ids) in
     let k : frame_bytes (length ids) - 4 ≡ length (body ids) = omega (arith, length_body ids) in
-    over_then (body ids) (trailer kind (length ids)) output after new (frame_bytes (length ids) - 4) (frame_bytes (length ids) - 4 + 4) k refl
+    over_then (body ids) (trailer kind (length ids)) output after new (frame_bytes (length ids) - 4) (frame_bytes
+    (length ids) - 4 + 4) k refl
     a (rw e at q)

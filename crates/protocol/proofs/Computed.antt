@@ -7,7 +7,8 @@ use Rattle.counting.specs.Sums.{bit, sum, pairs, all}
 use Rattle.frame.specs.Message.{kind_of, ids_of, holds_one, holds_all, known, expected}
 use Rattle.frame.specs.Encoding.{two_bytes, four_bytes, body, trailer, frame_of, encode}
 use Rattle.frame.specs.Reading.{from_end, kind_byte, count_byte, back_distance, body_start, body_of, identifier, identifiers, ids_in}
-use Rattle.frame.specs.Reading.{length_refusal, kind_refusal, distance_refusal, trailer_refusal, list_refusal, burst_refusal, message, message_of}
+use Rattle.frame.specs.Reading.{length_refusal, kind_refusal, distance_refusal, trailer_refusal}
+use Rattle.frame.specs.Reading.{list_refusal, burst_refusal, message, message_of}
 use Rattle.protocol.specs.Links.{announces, verifies_of, holds_verify, used, full}
 use Rattle.protocol.specs.Links.{holds_vector, holds_correct, holds_verify_final, holds_list}
 use Rattle.protocol.specs.Record.{link_at, link_count, links, announced, certified, tally, tally_sum}

@@ -1,6 +1,7 @@
 -- What is printed reads back as it was meant: a word, a number digit by digit, two numbers with a space between them.
 use Rattle.std.specs.Prelude.{ℕ, zero, suc, ◌+◌, ◌*◌, ◌-◌, ◌/◌, ◌%◌, ◌^◌, ◌≤◌, ◌<◌, ◌≡◌, refl, false, length, get_or, drop}
-use Rattle.std.proofs.Common.{sym, ◌∙◌, pow-suc, arith, eq-eqb, ne_eqb, lt-ltb, le-ltb, length-append, length-drop, get_or-drop, drop-drop, drop_at}
+use Rattle.std.proofs.Common.{sym, ◌∙◌, pow-suc, arith, eq-eqb, ne_eqb}
+use Rattle.std.proofs.Common.{lt-ltb, le-ltb, length-append, length-drop, get_or-drop, drop-drop, drop_at}
 use Rattle.std.proofs.Math.Path.{ap}
 use mathlib.Core.List.{List, [], ◌∷◌, ◌++◌, append_assoc}
 use Rattle.std.proofs.Math.Decide.{dec_lt}

@@ -54,7 +54,8 @@ pub data SaysOf (W : Net) (b : ℕ) (ids line : List ℕ) : Type 0 where
   says_idle : has_stopped W b ≡ false → (W.base b).state ≡ 0 → line ≡ of_base b idle_text → SaysOf W b ids line
   says_running : has_stopped W b ≡ false → (W.base b).state ≡ 1 → line ≡ of_base b running_text → SaysOf W b ids line
   says_prime : has_stopped W b ≡ true → (W.base b).state ≡ 2 → line ≡ of_base b (prime_text ++ roster_text ids) → SaysOf W b ids line
-  says_secondary : has_stopped W b ≡ true → (W.base b).state ≡ 3 → line ≡ of_base b (secondary_text ++ roster_text ids) → SaysOf W b ids line
+  says_secondary : has_stopped W b ≡ true → (W.base b).state ≡ 3 → line ≡ of_base b (secondary_text ++ roster_text ids)
+      → SaysOf W b ids line
 
 -- `waiting` and a number
 unfoldable pub of_waiting : ℕ → List ℕ

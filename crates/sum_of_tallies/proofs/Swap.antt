@@ -48,5 +48,6 @@ pub tally_by_links : (b : Base)
     → tally_sum b ≡ length (certified b) + sum (link_count b) (λ i. sum_over (certified b) (λ g. bit (holds_verify (link_at b i) g)))
 unfolding tally_sum tally links
 tally_by_links b =
-    sum_with_members (certified b) (certified b) (λ g. sum (link_count b) (λ i. bit (holds_verify (link_at b i) g))) (member_at (certified b))
+    sum_with_members (certified b) (certified b) (λ g. sum (link_count b) (λ i. bit (holds_verify (link_at b i) g))) (member_at
+    (certified b))
     ∙ ap (λ (s : ℕ). length (certified b) + s) (sum_over_swap (certified b) (link_count b) (λ g i. bit (holds_verify (link_at b i) g)))

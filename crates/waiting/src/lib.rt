@@ -36,7 +36,8 @@ fn waiting_between(sender: Node, receiver: Node, faulty: Faulty, a: u8, b: u8) -
 // Broadcasts of the base at place a that wait.
 fn waiting_from(net: StoredNet, a: usize) -> usize
     requires { a < most_bases }
-    ensures { (result ≡ sum (size net) (λ b. waiting_from (faulty_of net) (net_of net) (suc a) (suc b))) × (result ≤ most_bases * most_broadcasts) }
+    ensures { (result ≡ sum (size net) (λ b. waiting_from (faulty_of net) (net_of net) (suc a) (suc b)))
+        × (result ≤ most_bases * most_broadcasts) }
 {
     let n = least(net.n as usize, MOST_BASES);
     let sender = net.nodes[a];

@@ -17,7 +17,8 @@ use Rattle.stored_walk.specs.Reaching.{base_there}
 use Rattle.base_lines.proofs.base_lines.Goals as goal
 
 pub returns-then-not-has_room : goal.returns-then-not-has_room
-returns-then-not-has_room c = let p = not_put (line_room * most_bases) _ _ _ (sym c.has_room.ensures ∙ c.if-not-has_room.true) in record { value = p.0; out_after = p.1; upper_bound = omega arith }
+returns-then-not-has_room c = let p = not_put (line_room * most_bases) _ _ _ (sym c.has_room.ensures ∙ c.if-not-has_room.true) in
+    record { value = p.0; out_after = p.1; upper_bound = omega arith }
 
 pub loop-b-init : goal.loop-b-init
 unfolding size
@@ -39,11 +40,15 @@ pub bounds-net-b : goal.bounds-net-b
 bounds-net-b c = omega (arith, c.loop-b.invariant.1.1.0)
 
 pub loop-b-preserved : goal.loop-b-preserved
-loop-b-preserved c = let fits : leb (0 + line_room * most_bases) (length c.args.out.now) ≡ true = sym c.has_room.ensures ∙ c.if-not-has_room.false in
+loop-b-preserved c = let fits : leb (0 + line_room * most_bases) (length c.args.out.now) ≡ true =
+    sym c.has_room.ensures ∙ c.if-not-has_room.false in
     let I = c.loop-b.invariant in
     let less = c.loop-b-test.true in
     let room = leb-true (0 + line_room * most_bases) (length c.args.out.now) fits in
-    let P = put_fits line_room (omega (arith, I.1.1.0, I.1.1.1.0, I.1.1.1.1.0, less, room)) (c.base_line-at.ensures.value, c.base_line-at.ensures.out_after) in (
+    let P = put_fits line_room (omega (arith, I.1.1.0, I.1.1.1.0, I.1.1.1.1.0, less, room)) (
+      c.base_line-at.ensures.value,
+      c.base_line-at.ensures.out_after,
+    ) in (
       omega (arith, less),
       (
         I.1.0,
@@ -71,4 +76,5 @@ returns c = let fits : leb (0 + line_room * most_bases) (length c.args.out.now) 
     let I = c.loop-b.invariant in
     let e : c.loop-b.b ≡ size w = omega (arith, I.0, I.1.0, c.loop-b-test.false) in
     let P = put_as (ap (λ (k : ℕ). base_lines k (net_of w)) e) I.1.1.1.1.1 in
-    let p = fits_put (line_room * most_bases) fits P in record { value = p.0; out_after = p.1; upper_bound = subst (λ (k : ℕ). c.loop-b.at ≤ line_room * k) e I.1.1.1.0 }
+    let p = fits_put (line_room * most_bases) fits P in
+    record { value = p.0; out_after = p.1; upper_bound = subst (λ (k : ℕ). c.loop-b.at ≤ line_room * k) e I.1.1.1.0 }

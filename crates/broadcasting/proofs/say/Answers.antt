@@ -19,7 +19,11 @@ pub returns-then-count-gt-MOST_BASES : goal.returns-then-count-gt-MOST_BASES
 returns-then-count-gt-MOST_BASES c = let a = c.args in
     let k = shape_known a.kind
     a.n (sym c.shape_of.ensures ∙ c.in-Known.is) in
-    nothing_said _ _ c.frame_size-then-count-gt-MOST_BASES.ensures (long_frame a.n a.kind a.ids _ (omega (arith, k.1.0, c.if-count-gt-MOST_BASES.true)))
+    nothing_said _ _ c.frame_size-then-count-gt-MOST_BASES.ensures (long_frame a.n a.kind a.ids _ (omega (
+      arith,
+      k.1.0,
+      c.if-count-gt-MOST_BASES.true,
+    )))
 
 pub slice_bounds-put-end : goal.slice_bounds-put-end
 slice_bounds-put-end c = let z : length c.args.ids ≡ most_bases = c.well_formed.1.1.0.1.0.1 in

@@ -11,12 +11,14 @@ use Rattle.bursts.proofs.body_refusal.Goals as goal
 
 pub slice_bounds-ids-end : goal.slice_bounds-ids-end
 unfolding count_byte from_end
-slice_bounds-ids-end c = let few : c.wide-count.result ≤ length c.id_array-ids.result = let pre = c.requires in omega (arith, c.wide-count.ensures, pre.few, ap length c.id_array-ids.ensures ∙ length_array _) in
+slice_bounds-ids-end c = let few : c.wide-count.result ≤ length c.id_array-ids.result = let pre = c.requires in
+    omega (arith, c.wide-count.ensures, pre.few, ap length c.id_array-ids.ensures ∙ length_array _) in
     few
 
 pub slice_bounds-list_refusal-end : goal.slice_bounds-list_refusal-end
 unfolding count_byte from_end
-slice_bounds-list_refusal-end c = let few : c.wide-count.result ≤ length c.id_array-ids.result = let pre = c.requires in omega (arith, c.wide-count.ensures, pre.few, ap length c.id_array-ids.ensures ∙ length_array _) in
+slice_bounds-list_refusal-end c = let few : c.wide-count.result ≤ length c.id_array-ids.result = let pre = c.requires in
+    omega (arith, c.wide-count.ensures, pre.few, ap length c.id_array-ids.ensures ∙ length_array _) in
     sym (length-take-le _ _ few)
 
 pub returns : goal.returns

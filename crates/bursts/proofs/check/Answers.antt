@@ -33,4 +33,5 @@ returns c =
     let net-refusal = c.net_refusal-net in
     let trailer-refusal = c.trailer_refusal-trailer in
     c.body_refusal.ensures
-    ∙ sym (first_none _ (sym net-refusal.ensures ∙ c.if-net-ne0.false) ∙ first_none _ (sym trailer-refusal.ensures ∙ c.if-trailer-ne0.false))
+    ∙ sym (first_none _ (sym net-refusal.ensures ∙ c.if-net-ne0.false) ∙ first_none _ (sym trailer-refusal.ensures
+    ∙ c.if-trailer-ne0.false))

@@ -28,14 +28,18 @@ bounds-burst-len-2 c =
 
 pub returns-then-number-ne0 : goal.returns-then-number-ne0
 unfolding trailer_refusal kind_byte count_byte from_end
-returns-then-number-ne0 c = let of_the_trailer : let a = c.args in c.kind_refusal-number.result ≡ kind_refusal a.n (kind_byte a.burst.now) (count_byte a.burst.now) = let a = c.args in c.kind_refusal-number.ensures ∙ ap (kind_refusal a.n _) c.wide.ensures in
+returns-then-number-ne0 c = let of_the_trailer : let a = c.args in
+    c.kind_refusal-number.result ≡ kind_refusal a.n (kind_byte a.burst.now) (count_byte a.burst.now) = let a = c.args in
+    c.kind_refusal-number.ensures ∙ ap (kind_refusal a.n _) c.wide.ensures in
     let length-refusal = c.length_refusal-length in
     let z = sym length-refusal.ensures ∙ c.if-length-ne0.false in
     let e = of_the_trailer in e ∙ sym (first_none _ z ∙ first_given _ (λ q. c.if-number-ne0.true (e ∙ q)))
 
 pub distance_refusal-requires : goal.distance_refusal-requires
 unfolding kind_byte from_end count_byte
-distance_refusal-requires c = let of_the_trailer : let a = c.args in c.kind_refusal-number.result ≡ kind_refusal a.n (kind_byte a.burst.now) (count_byte a.burst.now) = let a = c.args in c.kind_refusal-number.ensures ∙ ap (kind_refusal a.n _) c.wide.ensures in
+distance_refusal-requires c = let of_the_trailer : let a = c.args in
+    c.kind_refusal-number.result ≡ kind_refusal a.n (kind_byte a.burst.now) (count_byte a.burst.now) = let a = c.args in
+    c.kind_refusal-number.ensures ∙ ap (kind_refusal a.n _) c.wide.ensures in
     let a = c.args in
     let length-refusal = c.length_refusal-length in
     let z = sym length-refusal.ensures ∙ c.if-length-ne0.false in
@@ -45,7 +49,9 @@ distance_refusal-requires c = let of_the_trailer : let a = c.args in c.kind_refu
 
 pub returns : goal.returns
 unfolding trailer_refusal kind_byte count_byte from_end
-returns c = let of_the_trailer : let a = c.args in c.kind_refusal-number.result ≡ kind_refusal a.n (kind_byte a.burst.now) (count_byte a.burst.now) = let a = c.args in c.kind_refusal-number.ensures ∙ ap (kind_refusal a.n _) c.wide.ensures in
+returns c = let of_the_trailer : let a = c.args in
+    c.kind_refusal-number.result ≡ kind_refusal a.n (kind_byte a.burst.now) (count_byte a.burst.now) = let a = c.args in
+    c.kind_refusal-number.ensures ∙ ap (kind_refusal a.n _) c.wide.ensures in
     let length-refusal = c.length_refusal-length in
     let z = sym length-refusal.ensures ∙ c.if-length-ne0.false in
     c.distance_refusal.ensures ∙ sym (first_none _ z ∙ first_none _ (sym of_the_trailer ∙ c.if-number-ne0.false))

@@ -27,14 +27,16 @@ overflow_mul-n c = let b = c.args.base in
 
 pub returns-then-tally_sum-t : goal.returns-then-tally_sum-t
 unfolding prime_holds
-returns-then-tally_sum-t c = let full : let b = c.args.base in eqb (length (certified b)) b.n ≡ true = eq-eqb _ _ (sym c.certified_count.ensures.0 ∙ c.if-certified_count-n.false) in
+returns-then-tally_sum-t c = let full : let b = c.args.base in
+    eqb (length (certified b)) b.n ≡ true = eq-eqb _ _ (sym c.certified_count.ensures.0 ∙ c.if-certified_count-n.false) in
     let b = c.args.base in
     and_goes_on full
     (and_fails _ (lt-leb (b.n * b.n) (tally_sum b + 2 * b.t) (omega (arith, c.tally_sum.ensures.0))))
 
 pub returns : goal.returns
 unfolding prime_holds
-returns c = let full : let b = c.args.base in eqb (length (certified b)) b.n ≡ true = eq-eqb _ _ (sym c.certified_count.ensures.0 ∙ c.if-certified_count-n.false) in
+returns c = let full : let b = c.args.base in
+    eqb (length (certified b)) b.n ≡ true = eq-eqb _ _ (sym c.certified_count.ensures.0 ∙ c.if-certified_count-n.false) in
     let b = c.args.base in
     and_goes_on full
     (and_goes_on (le-leb (b.n * b.n) (tally_sum b + 2 * b.t) (omega (arith, c.tally_sum.ensures.0)))

@@ -23,7 +23,11 @@ returns-then-body-i c =
 
 pub bounds-ids-i : goal.bounds-ids-i
 bounds-ids-i c = let b = c.args.body.now in
-    omega (arith, ap length c.loop-i.invariant.1.1 ∙ length_pad most_bases (spec.identifiers c.loop-i.i b) (omega (arith, length_identifiers c.loop-i.i b)))
+    omega (
+      arith,
+      ap length c.loop-i.invariant.1.1
+          ∙ length_pad most_bases (spec.identifiers c.loop-i.i b) (omega (arith, length_identifiers c.loop-i.i b)),
+    )
 
 pub loop-i-preserved : goal.loop-i-preserved
 loop-i-preserved c =

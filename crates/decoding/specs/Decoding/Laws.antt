@@ -23,7 +23,10 @@ array_whole i s e = ap (λ (k : ℕ). pad_to most_bases (identifiers k s)) (sym 
 pub length_array : (s : List ℕ) → length (id_array s) ≡ most_bases
 unfolding id_array
 length_array s =
-    length_pad most_bases (identifiers (min most_bases (length s / 4)) s) (omega (arith, length_identifiers (min most_bases (length s / 4)) s))
+    length_pad most_bases (identifiers (min most_bases (length s / 4)) s) (omega (
+      arith,
+      length_identifiers (min most_bases (length s / 4)) s,
+    ))
 
 -- a body's array holds the burst's identifiers
 pub array_of : (s : List ℕ) → Framed s → id_array (body_of s) ≡ pad_to most_bases (ids_in s)

@@ -17,11 +17,13 @@ slice_bounds-bytes-end c =
     omega (arith, c.requires.0, ap length c.hex_array-bytes.ensures, length_hex a.s.now a.at a.count)
 
 pub slice_bounds-forge-end : goal.slice_bounds-forge-end
-slice_bounds-forge-end c = let room : c.args.count ≤ length c.hex_array-bytes.result = omega (arith, c.requires.0, ap length c.hex_array-bytes.ensures, length_hex c.args.s.now c.args.at c.args.count) in
+slice_bounds-forge-end c = let room : c.args.count ≤ length c.hex_array-bytes.result =
+    omega (arith, c.requires.0, ap length c.hex_array-bytes.ensures, length_hex c.args.s.now c.args.at c.args.count) in
     sym (length-take-le _ _ room)
 
 pub returns : goal.returns
-returns c = let bytes_are : take c.args.count c.hex_array-bytes.result ≡ hex_bytes c.args.count (drop c.args.at c.args.s.now) = ap (take c.args.count) c.hex_array-bytes.ensures ∙ hex_front c.args.s.now c.args.at c.args.count c.requires.0 c.requires.1 in
+returns c = let bytes_are : take c.args.count c.hex_array-bytes.result ≡ hex_bytes c.args.count (drop c.args.at c.args.s.now) =
+    ap (take c.args.count) c.hex_array-bytes.ensures ∙ hex_front c.args.s.now c.args.at c.args.count c.requires.0 c.requires.1 in
     c.forge.ensures ∙ ap (λ (l : List ℕ).
     forged_to c.args.receiver (pairs_of c.args.faulty)
     c.args.a c.args.b l) bytes_are

@@ -135,7 +135,8 @@ stored_self w b = go (in_range b most_bases)
 -- the base that an event reaches, as the event leaves it
 unfoldable pub reached_node : StoredNet → Event → Node
 reached_node w e =
-    choose (eqb (refusal (faulty_of w) (net_of w) e) 0) (marks e (Nodes.node_after (node_at w (at e)) (call (net_of w) e))) (node_at w (at e))
+    choose (eqb (refusal (faulty_of w) (net_of w) e) 0) (marks e (Nodes.node_after (node_at w (at e)) (call (net_of w) e))) (node_at w
+    (at e))
 
 pub reached_stored : (w : StoredNet) (e : Event) → with_node w (at e) (reached_node w e) ≡ after w e
 unfolding reached_node after

@@ -13,7 +13,8 @@ loop-i-init c = let e = c.least-count.ensures in
     (pairs_named _ (faulty_sized c.args.faulty _ c.well_formed.0) e, omega (arith, e), omega arith, refl)
 
 pub returns-then-joins_bases : goal.returns-then-joins_bases
-returns-then-joins_bases c = let here : c.loop-i.i < length (pairs_of c.args.faulty) = omega (arith, c.loop-i.invariant.0, c.loop-i-test.true) in
+returns-then-joins_bases c = let here : c.loop-i.i < length (pairs_of c.args.faulty) =
+    omega (arith, c.loop-i.invariant.0, c.loop-i-test.true) in
     let I = c.loop-i.invariant in let h = here in
     sym (I.3 ∙ good_broken _ _ _ _ _ h (joined_there _ _ _ _ h c.joins_bases.ensures ∙ c.if-joins_bases.true))
 

@@ -15,7 +15,8 @@ unfolding pairs_of
 pairs_named f e least = least
     ∙ sym (taken_length pair_of f.count f.pairs ∙ ap (min f.count) e)
 
-pub pair_there : (f : Faulty) (i : ℕ) → i < length (pairs_of f) → pair_of (get_or f.pairs i no_pair) ≡ get_or (pairs_of f) i (pair_of no_pair)
+pub pair_there : (f : Faulty) (i : ℕ) → i < length (pairs_of f)
+    → pair_of (get_or f.pairs i no_pair) ≡ get_or (pairs_of f) i (pair_of no_pair)
 unfolding pairs_of
 pair_there f i h = taken_at pair_of f.count f.pairs i no_pair h
 

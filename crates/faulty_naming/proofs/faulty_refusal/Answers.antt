@@ -8,9 +8,11 @@ use Rattle.faulty_links.proofs.Sizes.{faulty_sized}
 use Rattle.faulty_naming.proofs.faulty_refusal.Goals as goal
 
 pub returns-then-t-least : goal.returns-then-t-least
-returns-then-t-least c = let named : c.least.result ≡ length (pairs_of c.args.faulty) = pairs_named _ (faulty_sized c.args.faulty _ c.well_formed.0) c.least.ensures in
+returns-then-t-least c = let named : c.least.result ≡ length (pairs_of c.args.faulty) =
+    pairs_named _ (faulty_sized c.args.faulty _ c.well_formed.0) c.least.ensures in
     too_many _ _ named c.if-t-least.true
 
 pub returns : goal.returns
-returns c = let named : c.least.result ≡ length (pairs_of c.args.faulty) = pairs_named _ (faulty_sized c.args.faulty _ c.well_formed.0) c.least.ensures in
+returns c = let named : c.least.result ≡ length (pairs_of c.args.faulty) =
+    pairs_named _ (faulty_sized c.args.faulty _ c.well_formed.0) c.least.ensures in
     few_enough _ _ named c.if-t-least.false

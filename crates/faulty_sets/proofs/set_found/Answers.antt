@@ -7,11 +7,13 @@ use Rattle.faulty_sets.specs.Small.Laws.{pairs_few}
 use Rattle.faulty_sets.proofs.set_found.Goals as goal
 
 pub pair_count-requires : goal.pair_count-requires
-pair_count-requires c = let small : SmallNet c.args.n c.args.t = small_passed c.args.n c.args.t (set_passed c.args.n c.args.t c.args.number c.requires).0 in
+pair_count-requires c = let small : SmallNet c.args.n c.args.t =
+    small_passed c.args.n c.args.t (set_passed c.args.n c.args.t c.args.number c.requires).0 in
     (small.some, small.most)
 
 pub of_size-at-requires : goal.of_size-at-requires
-of_size-at-requires c = let small : SmallNet c.args.n c.args.t = small_passed c.args.n c.args.t (set_passed c.args.n c.args.t c.args.number c.requires).0 in
+of_size-at-requires c = let small : SmallNet c.args.n c.args.t =
+    small_passed c.args.n c.args.t (set_passed c.args.n c.args.t c.args.number c.requires).0 in
     let a = c.args in
     let S = small in (
       omega (arith, c.pair_count.ensures, pairs_few a.n S.most),
@@ -20,7 +22,8 @@ of_size-at-requires c = let small : SmallNet c.args.n c.args.t = small_passed c.
     )
 
 pub found-requires : goal.found-requires
-found-requires c = let small : SmallNet c.args.n c.args.t = small_passed c.args.n c.args.t (set_passed c.args.n c.args.t c.args.number c.requires).0 in
+found-requires c = let small : SmallNet c.args.n c.args.t =
+    small_passed c.args.n c.args.t (set_passed c.args.n c.args.t c.args.number c.requires).0 in
     let at = c.of_size-at.ensures in (
       small.some,
       small.most,

@@ -68,12 +68,14 @@ module _ (n t : ℕ) {r : ℕ} (e : r ≡ small_refusal n t) where
 -- ---- what the count tells
 pub sets_told : (n t : ℕ) {c : ℕ} → counted.Sets c ≡ count_answer n t → (small_refusal n t ≡ 0) × (c ≡ length (faulty_sets n t))
 unfolding count_answer
-sets_told n t {c} = choose_ind (λ a. counted.Sets c ≡ a → (small_refusal n t ≡ 0) × (c ≡ length (faulty_sets n t))) (eqb (small_refusal n t) 0)
+sets_told n t {c} = choose_ind (λ a. counted.Sets c ≡ a
+    → (small_refusal n t ≡ 0) × (c ≡ length (faulty_sets n t))) (eqb (small_refusal n t) 0)
     (λ p e. (eqb-true _ 0 p, cc)) (λ p e. absurd (let z : ◌≡◌ {A = ℕ} 0 1 = cc in omega arith))
 
 pub refused_told : (n t : ℕ) {r : ℕ} → counted.Refused r ≡ count_answer n t → (r ≡ small_refusal n t) × (small_refusal n t ≢ 0)
 unfolding count_answer
-refused_told n t {r} = choose_ind (λ a. counted.Refused r ≡ a → (r ≡ small_refusal n t) × (small_refusal n t ≢ 0)) (eqb (small_refusal n t) 0)
+refused_told n t {r} = choose_ind (λ a. counted.Refused r ≡ a
+    → (r ≡ small_refusal n t) × (small_refusal n t ≢ 0)) (eqb (small_refusal n t) 0)
     (λ p e. absurd (let z : ◌≡◌ {A = ℕ} 0 1 = cc in omega arith)) (λ p e. (cc, eqb-false _ 0 p))
 
 -- ---- the set of a number
@@ -82,7 +84,8 @@ module _ (n t number : ℕ) {r : ℕ} (e : r ≡ set_refusal n t number) where
   unfolding set_answer
   set_refused h = chosen_no _ (ne_eqb _ 0 (λ z. h (e ∙ z))) (ap Refused e)
 
-  pub set_given : r ≡ 0 → {a : FaultySet} {s : List LinkPair} → a ≡ links_answer s → s ≡ faulty_set_at n t number → a ≡ set_answer n t number
+  pub set_given : r ≡ 0 → {a : FaultySet} {s : List LinkPair} → a ≡ links_answer s → s ≡ faulty_set_at n t number
+      → a ≡ set_answer n t number
   unfolding set_answer
   set_given h f g = chosen_yes _ (eq-eqb _ 0 (sym e ∙ h)) (f ∙ ap links_answer g)
 

@@ -1,7 +1,8 @@
 -- The search, pair by pair: what is sought stays the same, whether the next pair is in the set or not.
 use Rattle.std.specs.Prelude.{ℕ, zero, suc, ◌+◌, ◌-◌, ◌≤◌, ◌<◌, ◌≡◌, refl, take, drop}
 use Rattle.std.proofs.Math.Path.{sym, ap}
-use Rattle.std.proofs.Common.{ap₂, ◌∙◌, subst, add-one, arith, length-drop, drop_of_length-le, drop-cons, get_or-take, take-suc-set, length-take-le}
+use Rattle.std.proofs.Common.{ap₂, ◌∙◌, subst, add-one, arith}
+use Rattle.std.proofs.Common.{length-drop, drop_of_length-le, drop-cons, get_or-take, take-suc-set, length-take-le}
 use mathlib.Core.List.{List, [], ◌∷◌, ◌++◌, append_assoc, append-nil}
 use Rattle.std.proofs.Math.Decide.{dec_lt}
 use Rattle.std.proofs.Math.ListN.{length, get_or, length-set, length-take, get_or-eq_default}
@@ -61,7 +62,8 @@ module _ (n place k number : ℕ) (there : number < length (sets_from n place (s
       ∙ set_with k here (drop (place + 1) (net_pairs n)) number h
 
   not_in_set : length (sets_from n (place + 1) k) ≤ number
-      → get_or (sets_from n place (suc k)) number [] ≡ get_or (sets_from n (place + 1) (suc k)) (number - length (sets_from n (place + 1) k)) []
+      → get_or (sets_from n place (suc k)) number [] ≡ get_or (sets_from n (place + 1) (suc k)) (number - length (sets_from n
+      (place + 1) k)) []
   not_in_set h =
       ap (λ (l : List LinkPair). get_or (sets_of (suc k) l) number []) split
       ∙ set_without k here (drop (place + 1) (net_pairs n)) number h

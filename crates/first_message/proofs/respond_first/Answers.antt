@@ -17,26 +17,34 @@ use Rattle.first_message.proofs.respond_first.Goals as goal
 
 pub overflow_add-behind : goal.overflow_add-behind
 unfolding start_sizes
-overflow_add-behind c = let announce : c.begin-start.result.announce ≡ start_length (length c.args.out.now) = ap (λ (s : StartSizes). s.announce) c.begin-start.ensures.0 in
-    let verify : c.begin-start.result.verify ≡ start_length (length c.args.out.now) = ap (λ (s : StartSizes). s.verify) c.begin-start.ensures.0 in
+overflow_add-behind c = let announce : c.begin-start.result.announce ≡ start_length (length c.args.out.now) =
+    ap (λ (s : StartSizes). s.announce) c.begin-start.ensures.0 in
+    let verify : c.begin-start.result.verify ≡ start_length (length c.args.out.now) =
+    ap (λ (s : StartSizes). s.verify) c.begin-start.ensures.0 in
     omega (arith, announce, verify, start_short (length c.args.out.now))
 
 pub slice_bounds-respond-count : goal.slice_bounds-respond-count
 unfolding start_sizes
-slice_bounds-respond-count c = let announce : c.begin-start.result.announce ≡ start_length (length c.args.out.now) = ap (λ (s : StartSizes). s.announce) c.begin-start.ensures.0 in
-    let verify : c.begin-start.result.verify ≡ start_length (length c.args.out.now) = ap (λ (s : StartSizes). s.verify) c.begin-start.ensures.0 in
+slice_bounds-respond-count c = let announce : c.begin-start.result.announce ≡ start_length (length c.args.out.now) =
+    ap (λ (s : StartSizes). s.announce) c.begin-start.ensures.0 in
+    let verify : c.begin-start.result.verify ≡ start_length (length c.args.out.now) =
+    ap (λ (s : StartSizes). s.verify) c.begin-start.ensures.0 in
     omega (arith, announce, verify, start_fits (length c.args.out.now), c.begin-start.auto)
 
 pub slice_bounds-respond-start : goal.slice_bounds-respond-start
 unfolding start_sizes
-slice_bounds-respond-start c = let announce : c.begin-start.result.announce ≡ start_length (length c.args.out.now) = ap (λ (s : StartSizes). s.announce) c.begin-start.ensures.0 in
-    let verify : c.begin-start.result.verify ≡ start_length (length c.args.out.now) = ap (λ (s : StartSizes). s.verify) c.begin-start.ensures.0 in
+slice_bounds-respond-start c = let announce : c.begin-start.result.announce ≡ start_length (length c.args.out.now) =
+    ap (λ (s : StartSizes). s.announce) c.begin-start.ensures.0 in
+    let verify : c.begin-start.result.verify ≡ start_length (length c.args.out.now) =
+    ap (λ (s : StartSizes). s.verify) c.begin-start.ensures.0 in
     omega (arith, announce, verify, start_fits (length c.args.out.now), c.begin-start.auto)
 
 pub returns : goal.returns
 unfolding first_frames start_sizes
-returns c = let announce : c.begin-start.result.announce ≡ start_length (length c.args.out.now) = ap (λ (s : StartSizes). s.announce) c.begin-start.ensures.0 in
-    let verify : c.begin-start.result.verify ≡ start_length (length c.args.out.now) = ap (λ (s : StartSizes). s.verify) c.begin-start.ensures.0 in
+returns c = let announce : c.begin-start.result.announce ≡ start_length (length c.args.out.now) =
+    ap (λ (s : StartSizes). s.announce) c.begin-start.ensures.0 in
+    let verify : c.begin-start.result.verify ≡ start_length (length c.args.out.now) =
+    ap (λ (s : StartSizes). s.verify) c.begin-start.ensures.0 in
     let a = c.args in
     let room = length a.out.now in let o = c.begin-start.new.out in let k = c.begin-start.result.announce + c.begin-start.result.verify in
     let size : k ≡ length (start_frames a.own room) = omega (arith, announce, verify, start_long a.own room) in

@@ -1,6 +1,7 @@
 -- Sizes of frames, and bytes over an output.
 use Rattle.std.specs.Prelude.{ℕ, ◌+◌, ◌*◌, ◌-◌, ◌≤◌, ◌≡◌, refl, List, [], ◌∷◌, ◌++◌, length, take, drop}
-use Rattle.std.proofs.Common.{sym, ap, ◌∙◌, append_assoc, append-nil, arith, length-append, length-drop, drop_of_length-le, take_at, drop_at, drop-drop, take_all}
+use Rattle.std.proofs.Common.{sym, ap, ◌∙◌, append_assoc, append-nil, arith}
+use Rattle.std.proofs.Common.{length-append, length-drop, drop_of_length-le, take_at, drop_at, drop-drop, take_all}
 use Rattle.limits.specs.Limits.{frame_bytes}
 use Rattle.frame.specs.Encoding.{two_bytes, four_bytes, body, trailer, frame_of, over}
 

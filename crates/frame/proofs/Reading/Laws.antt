@@ -1,7 +1,9 @@
 -- What stands in a burst that is a preamble and a frame, and what a burst that is not turned down is made of.
 use Rattle.std.specs.Prelude.{ℕ, zero, suc, ◌+◌, ◌*◌, ◌-◌, ◌/◌, ◌%◌, ◌^◌, ◌≤◌, ◌<◌, ◌≡◌, true, false, eqb, ltb, get_or}
 use Rattle.std.proofs.Math.Path.{refl, sym, ap, ap₂}
-use Rattle.std.proofs.Common.{◌∙◌, inl, inr, add-zero, mod-eq_of_lt, eq-eqb, ne_eqb, ltb-false, eqb-true, length-append, length-take, length-drop, take-append-drop, drop_of_length-le, drop-cons, drop-drop, get_or-drop, get_or-take, get_or-append-add}
+use Rattle.std.proofs.Common.{◌∙◌, inl, inr, add-zero, mod-eq_of_lt, eq-eqb, ne_eqb, ltb-false, eqb-true}
+use Rattle.std.proofs.Common.{length-append, length-take, length-drop, take-append-drop, drop_of_length-le}
+use Rattle.std.proofs.Common.{drop-cons, drop-drop, get_or-drop, get_or-take, get_or-append-add}
 use Rattle.std.proofs.Math.Bool.{not}
 use mathlib.Core.List.{List, [], ◌∷◌, ◌++◌, append_assoc, append-nil}
 use Rattle.std.proofs.Math.Nat.{div-div-eq-div-mul, div-add-mod}
@@ -90,7 +92,8 @@ length_ids_in s = length_identifiers (count_byte s) (body_of s)
 pub below_ids_in : (s : List ℕ) → Below 256 s → Below (2 ^ 32) (ids_in s)
 unfolding ids_in body_of
 below_ids_in s h =
-    below_identifiers (count_byte s) (body_of s) (below_take 256 (4 * count_byte s) (drop (body_start s) s) (below_drop 256 (body_start s) s h))
+    below_identifiers (count_byte s) (body_of s) (below_take 256 (4 * count_byte s) (drop (body_start s) s) (below_drop 256
+    (body_start s) s h))
 
 -- the bytes of the identifiers that were read
 four_off : (s : List ℕ) → 4 ≤ length s → s ≡ get_or s 0 0 ∷ (get_or s 1 0 ∷ (get_or s 2 0 ∷ (get_or s 3 0 ∷ drop 4 s)))

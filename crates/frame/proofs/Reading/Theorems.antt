@@ -82,7 +82,8 @@ module _ (n : ℕ) (N : NetSize n) (pre : List ℕ) (m : Message) (v : Valid n m
   unfolding encode read_refusal burst_refusal message_of
   read_after_write = record {
     accepted =
-        first_none (first (trailer_refusal n s) (list_refusal (ids_in s))) (net_passes N) ∙ first_none (list_refusal (ids_in s)) trailer_passes
+        first_none (first (trailer_refusal n s) (list_refusal (ids_in s))) (net_passes N)
+        ∙ first_none (list_refusal (ids_in s)) trailer_passes
         ∙ list_passes;
     same_message =
         ap₂ message (kind_is pre (kind_of m) (ids_of m) range.1) (ids_are pre (kind_of m) (ids_of m) range.1 v.words)

@@ -12,7 +12,8 @@ pub fits : (n kind count room : ℕ) → kind_refusal n kind count ≡ 0 → len
 unfolding frame_fits
 fits n kind count room e h = and_both (eq-eqb (kind_refusal n kind count) 0 e) (le-leb (length_of kind n) room h)
 
-pub fits_passed : (n kind count room : ℕ) → frame_fits n kind count room ≡ true → (kind_refusal n kind count ≡ 0) × (length_of kind n ≤ room)
+pub fits_passed : (n kind count room : ℕ) → frame_fits n kind count room ≡ true
+    → (kind_refusal n kind count ≡ 0) × (length_of kind n ≤ room)
 unfolding frame_fits
 fits_passed n kind count room e =
     let p = and_true _ _ e in

@@ -11,19 +11,26 @@ use Rattle.header.proofs.read_header.Goals as goal
 
 pub id_steps-named-requires : goal.id_steps-named-requires
 unfolding begun_net
-id_steps-named-requires c = let sized_line : c.net_step-sized.result.line ≤ 2 = subst (λ (p : StoredNet). p.line ≤ 2) (sym c.net_step-sized.ensures) (net_near c.args.s.now) in
+id_steps-named-requires c = let sized_line : c.net_step-sized.result.line ≤ 2 =
+    subst (λ (p : StoredNet). p.line ≤ 2) (sym c.net_step-sized.ensures) (net_near c.args.s.now) in
     sized_line
 
 pub faulty_steps-requires : goal.faulty_steps-requires
 unfolding begun_net
-faulty_steps-requires c = let sized_line : c.net_step-sized.result.line ≤ 2 = subst (λ (p : StoredNet). p.line ≤ 2) (sym c.net_step-sized.ensures) (net_near c.args.s.now) in
-    let named_line : c.id_steps-named.result.line ≤ 2 + c.net_step-sized.result.n = let sized = c.net_step-sized.result in subst (λ (p : StoredNet). p.line ≤ 2 + sized.n) (sym c.id_steps-named.ensures) (ids_near c.args.s.now sized.n 2 (begun_net sized) sized_line) in
+faulty_steps-requires c = let sized_line : c.net_step-sized.result.line ≤ 2 =
+    subst (λ (p : StoredNet). p.line ≤ 2) (sym c.net_step-sized.ensures) (net_near c.args.s.now) in
+    let named_line : c.id_steps-named.result.line ≤ 2 + c.net_step-sized.result.n = let sized = c.net_step-sized.result in
+    subst (λ (p : StoredNet). p.line ≤ 2 + sized.n) (sym c.id_steps-named.ensures) (ids_near c.args.s.now sized.n 2
+    (begun_net sized) sized_line) in
     omega (arith, named_line)
 
 pub returns : goal.returns
 unfolding header_walk begun_net
-returns c = let sized_line : c.net_step-sized.result.line ≤ 2 = subst (λ (p : StoredNet). p.line ≤ 2) (sym c.net_step-sized.ensures) (net_near c.args.s.now) in
-    let named_line : c.id_steps-named.result.line ≤ 2 + c.net_step-sized.result.n = let sized = c.net_step-sized.result in subst (λ (p : StoredNet). p.line ≤ 2 + sized.n) (sym c.id_steps-named.ensures) (ids_near c.args.s.now sized.n 2 (begun_net sized) sized_line) in
+returns c = let sized_line : c.net_step-sized.result.line ≤ 2 =
+    subst (λ (p : StoredNet). p.line ≤ 2) (sym c.net_step-sized.ensures) (net_near c.args.s.now) in
+    let named_line : c.id_steps-named.result.line ≤ 2 + c.net_step-sized.result.n = let sized = c.net_step-sized.result in
+    subst (λ (p : StoredNet). p.line ≤ 2 + sized.n) (sym c.id_steps-named.ensures) (ids_near c.args.s.now sized.n 2
+    (begun_net sized) sized_line) in
     let s = c.args.s.now in
     let faulties : StoredNet → StoredNet = λ p. repeat (suc p.t) (faulty_step replaying s) p in
     let ids : StoredNet → StoredNet = λ p. id_steps replaying s p.n p in record {

@@ -77,14 +77,16 @@ arrival_running b i m h k =
 
 -- ---- a base that starts first
 module _ (own : ℕ) (says : List Message) (o : own_slots own says ≡ 0) where
-  behind : (ends : ℕ → ℕ → ℕ → ℕ → ℕ → Outcome) → ends (frame_bytes 1) (frame_bytes 1) (get_or (lengths says) 0 0) 2 (relayed_slots own says)
+  behind : (ends : ℕ → ℕ → ℕ → ℕ → ℕ → Outcome)
+      → ends (frame_bytes 1) (frame_bytes 1) (get_or (lengths says) 0 0) 2 (relayed_slots own says)
       ≡ with_sums ends own (announce own ∷ (verify own ∷ says))
   behind ends =
       let two : 2 ≡ 2 + own_slots own says = omega (arith, o) in
       ap (λ (k : ℕ). ends (frame_bytes 1) (frame_bytes 1) (get_or (lengths says) 0 0) k (relayed_slots own says)) two
       ∙ sym (start_answer own says ends)
 
-  behind_outcome : (a : Answer) → behind_start written_start (outcome_with own a says) ≡ outcome_with own a (announce own ∷ (verify own ∷ says))
+  behind_outcome : (a : Answer) → behind_start written_start (outcome_with own a says) ≡ outcome_with own a (announce own ∷
+      (verify own ∷ says))
   unfolding behind_start outcome_with
   behind_outcome accepted = behind Accepted
   behind_outcome discarded = behind Discarded

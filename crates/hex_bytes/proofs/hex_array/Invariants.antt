@@ -9,7 +9,8 @@ use Rattle.hex_bytes.proofs.hex_array.Given as goal
 
 abbrev pub invariant-loop-i : goal.invariant-loop-i
 invariant-loop-i l =
-    (l.i ≤ l.end) × ((l.end ≡ min (min l.count longest_forgery) ((length l.s - l.at) / 2)) × (l.bytes ≡ pad_to longest_forgery (hex_bytes l.i (drop l.at l.s))))
+    (l.i ≤ l.end) × ((l.end ≡ min (min l.count longest_forgery) ((length l.s - l.at) / 2)) × (l.bytes ≡ pad_to longest_forgery
+    (hex_bytes l.i (drop l.at l.s))))
 
 abbrev pub decreases-loop-i : goal.decreases-loop-i
 decreases-loop-i l = l.end - l.i

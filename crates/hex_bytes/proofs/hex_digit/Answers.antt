@@ -15,12 +15,28 @@ returns-then-b-le57 c = record { value = rw (le-leb 48 _ c.if-b-lt48.false, le-l
 
 pub returns-then-b-lt97 : goal.returns-then-b-lt97
 unfolding hex_digit and choose
-returns-then-b-lt97 c = record { value = rw (le-leb 48 _ c.if-b-lt48.false, lt-leb _ 57 c.if-b-le57.false, lt-leb 97 _ c.if-b-lt97.true); upper_bound = omega arith }
+returns-then-b-lt97 c = record {
+  value =
+      rw (le-leb 48 _ c.if-b-lt48.false, lt-leb _ 57 c.if-b-le57.false, lt-leb 97 _ c.if-b-lt97.true);
+  upper_bound = omega arith;
+}
 
 pub returns-then-b-le102 : goal.returns-then-b-le102
 unfolding hex_digit and choose
-returns-then-b-le102 c = record { value = rw (le-leb 48 _ c.if-b-lt48.false, lt-leb _ 57 c.if-b-le57.false, le-leb 97 _ c.if-b-lt97.false, le-leb _ 102 c.if-b-le102.true); upper_bound = omega arith }
+returns-then-b-le102 c = record {
+  value =
+      rw (le-leb 48 _ c.if-b-lt48.false, lt-leb _ 57 c.if-b-le57.false, le-leb 97 _ c.if-b-lt97.false, le-leb _ 102 c.if-b-le102.true);
+  upper_bound = omega arith;
+}
 
 pub returns : goal.returns
 unfolding hex_digit and choose
-returns c = record { value = rw (le-leb 48 _ c.if-b-lt48.false, lt-leb _ 57 c.if-b-le57.false, le-leb 97 _ c.if-b-lt97.false, lt-leb _ 102 c.if-b-le102.false); upper_bound = omega arith }
+returns c = record {
+  value = rw (
+    le-leb 48 _ c.if-b-lt48.false,
+    lt-leb _ 57 c.if-b-le57.false,
+    le-leb 97 _ c.if-b-lt97.false,
+    lt-leb _ 102 c.if-b-le102.false,
+  );
+  upper_bound = omega arith;
+}

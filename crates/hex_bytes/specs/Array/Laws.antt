@@ -1,5 +1,6 @@
 -- Laws of bytes in hexadecimal, one by one and in their array.
-use Rattle.std.specs.Prelude.{ℕ, zero, suc, ◌+◌, ◌*◌, ◌-◌, ◌/◌, ◌≤◌, ◌<◌, min, ◌≡◌, refl, List, [], ◌∷◌, ◌++◌, length, get_or, drop, take, set, replicate}
+use Rattle.std.specs.Prelude.{ℕ, zero, suc, ◌+◌, ◌*◌, ◌-◌, ◌/◌, ◌≤◌, ◌<◌, min, ◌≡◌}
+use Rattle.std.specs.Prelude.{refl, List, [], ◌∷◌, ◌++◌, length, get_or, drop, take, set, replicate}
 use Rattle.std.proofs.Common.{sym, ap, ap₂, ◌∙◌, arith, add-one, length-drop, get_or-drop}
 use Rattle.limits.specs.Limits.{longest_forgery}
 use Rattle.lists.specs.Lists.{pad_to}

@@ -11,7 +11,8 @@ use Rattle.hexadecimal.specs.Hex.{is_hex, hex_from}
 drop_two : (s : List ℕ) (i : ℕ) → i + 1 < length s → drop i s ≡ get_or s i 0 ∷ (get_or s (i + 1) 0 ∷ drop (i + 2) s)
 drop_two s i h =
     let e : i + 1 + 1 ≡ i + 2 = omega arith in
-    drop_one s i (omega arith) ∙ ap (λ (l : List ℕ). get_or s i 0 ∷ l) (drop_one s (i + 1) h ∙ ap (λ (k : ℕ). get_or s (i + 1) 0 ∷ drop k s) e)
+    drop_one s i (omega arith) ∙ ap (λ (l : List ℕ). get_or s i 0 ∷ l) (drop_one s (i + 1) h
+    ∙ ap (λ (k : ℕ). get_or s (i + 1) 0 ∷ drop k s) e)
 
 -- ---- the walk over the pairs
 pub hex_at_end : (s : List ℕ) (i k : ℕ) → length s ≤ i → hex_from (drop i s) k i ≡ Bad
@@ -40,7 +41,8 @@ pub end_no_digit : (s : List ℕ) (i : ℕ) → length s ≤ i + 1 → is_hex (g
 unfolding is_hex and or
 end_no_digit s i h = ap is_hex (get_or-eq_default s 0 h)
 
-pub from_pair : (s : List ℕ) (i k : ℕ) → i < length s → (get_or s i 0 ≡ 10 → ⊥) → and (is_hex (get_or s i 0)) (is_hex (get_or s (i + 1) 0)) ≡ true
+pub from_pair : (s : List ℕ) (i k : ℕ) → i < length s → (get_or s i 0 ≡ 10 → ⊥)
+    → and (is_hex (get_or s i 0)) (is_hex (get_or s (i + 1) 0)) ≡ true
     → hex_from (drop i s) k i ≡ hex_from (drop (i + 2) s) (k + 1) (i + 2)
 unfolding hex_from
 from_pair s i k h e a =
@@ -53,7 +55,8 @@ unfolding hex_from
 no_pair_ends a [] k p e q = choose_no _ _ (ne_eqb a 10 e)
 no_pair_ends a (b ∷ rest) k p e q = choose_no _ _ (ne_eqb a 10 e) ∙ choose_no _ _ q
 
-pub from_other : (s : List ℕ) (i k : ℕ) → i < length s → (get_or s i 0 ≡ 10 → ⊥) → and (is_hex (get_or s i 0)) (is_hex (get_or s (i + 1) 0)) ≡ false
+pub from_other : (s : List ℕ) (i k : ℕ) → i < length s → (get_or s i 0 ≡ 10 → ⊥)
+    → and (is_hex (get_or s i 0)) (is_hex (get_or s (i + 1) 0)) ≡ false
     → hex_from (drop i s) k i ≡ Bad
 from_other s i k h e a =
     let z : i + 1 + 0 ≡ i + 1 = omega arith in

@@ -11,7 +11,8 @@ returns-then-first-gt-LONGEST_FRAME c = and_fails _ (lt-leb _ _ c.if-first-gt-LO
 
 pub returns-then-second-gt-LONGEST_FRAME : goal.returns-then-second-gt-LONGEST_FRAME
 unfolding three_fit
-returns-then-second-gt-LONGEST_FRAME c = and_goes_on (le-leb _ _ c.if-first-gt-LONGEST_FRAME.false) (and_fails _ (lt-leb _ _ c.if-second-gt-LONGEST_FRAME.true))
+returns-then-second-gt-LONGEST_FRAME c =
+    and_goes_on (le-leb _ _ c.if-first-gt-LONGEST_FRAME.false) (and_fails _ (lt-leb _ _ c.if-second-gt-LONGEST_FRAME.true))
 
 pub returns-then-third-gt-LONGEST_FRAME : goal.returns-then-third-gt-LONGEST_FRAME
 unfolding three_fit

@@ -19,7 +19,8 @@ pub copied : (out : List ℕ) (from len i : ℕ) → i < len → len ≤ longest
     → set (pad_to longest_frame (take i (drop from out))) i (get_or out (from + i) 0) ≡ pad_to longest_frame (take (i + 1) (drop from out))
 copied out from len i h short fits =
     let l : i < length (drop from out) = simp length-drop (omega arith) in
-    pad_next longest_frame (take i (drop from out)) i (get_or out (from + i) 0) (length-take-le i (drop from out) (omega arith)) (omega arith)
+    pad_next longest_frame (take i (drop from out)) i (get_or out (from + i) 0) (length-take-le i (drop from out) (omega arith))
+    (omega arith)
     ∙ ap (pad_to longest_frame) (sym
     (rw (add-one i) (take-suc (drop from out) i 0 l ∙ ap (λ (x : ℕ). take i (drop from out) ++ (x ∷ [])) (get_or-drop from out i 0))))
 

@@ -23,13 +23,20 @@ pub loop-i-smaller-then-most-list : goal.loop-i-smaller-then-most-list
 loop-i-smaller-then-most-list c = omega (arith, c.loop-i-test.true)
 
 pub loop-i-preserved-then-most-list : goal.loop-i-preserved-then-most-list
-loop-i-preserved-then-most-list c = (leader_new _ _ _ c.loop-i-test.true c.loop-i.invariant.1 c.loop-i.invariant.0 c.if-most-list.true, omega (arith, c.loop-i.invariant.1))
+loop-i-preserved-then-most-list c =
+    (leader_new _ _ _ c.loop-i-test.true c.loop-i.invariant.1 c.loop-i.invariant.0 c.if-most-list.true, omega (arith, c.loop-i.invariant.1))
 
 pub loop-i-smaller : goal.loop-i-smaller
 loop-i-smaller c = omega (arith, c.loop-i-test.true)
 
 pub loop-i-preserved : goal.loop-i-preserved
-loop-i-preserved c = (leader_same _ _ _ c.loop-i-test.true c.loop-i.invariant.1 c.loop-i.invariant.0 c.if-most-list.false, omega (arith, c.loop-i.invariant.1))
+loop-i-preserved c = (
+  leader_same _ _ _ c.loop-i-test.true c.loop-i.invariant.1 c.loop-i.invariant.0 c.if-most-list.false,
+  omega (
+    arith,
+    c.loop-i.invariant.1,
+  ),
+)
 
 pub returns : goal.returns
 returns c = let z : c.loop-i.i ≡ 0 = omega (arith, c.loop-i-test.false) in

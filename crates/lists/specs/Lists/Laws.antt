@@ -1,6 +1,9 @@
 -- Laws of the tests on lists, as a loop over an index uses them: what the rest from an index on says of the list. Then a list in an array.
-use Rattle.std.specs.Prelude.{◌≡◌, refl, Bool, true, false, not, List, [], ◌∷◌, ◌++◌, map, ℕ, zero, suc, ◌+◌, ◌-◌, ◌<◌, ◌≤◌, min, eqb, leb, length, take, drop, get_or, set, replicate}
-use Rattle.std.proofs.Common.{sym, ap, ◌∙◌, append_assoc, arith, add-one, lt-ltb, le-ltb, eq-eqb, ne_eqb, leb-true, leb-false, length-append, length-drop, length-take, drop_of_length-le, drop-cons, take_at, take_all, get_or-take, get_or-append-add}
+use Rattle.std.specs.Prelude.{◌≡◌, refl, Bool, true, false, not, List, [], ◌∷◌, ◌++◌, map, ℕ, zero}
+use Rattle.std.specs.Prelude.{suc, ◌+◌, ◌-◌, ◌<◌, ◌≤◌, min, eqb, leb, length, take, drop, get_or, set, replicate}
+use Rattle.std.proofs.Common.{sym, ap, ◌∙◌, append_assoc, arith, add-one, lt-ltb, le-ltb, eq-eqb, ne_eqb}
+use Rattle.std.proofs.Common.{leb-true, leb-false, length-append, length-drop, length-take}
+use Rattle.std.proofs.Common.{drop_of_length-le, drop-cons, take_at, take_all, get_or-take, get_or-append-add}
 use Rattle.std.proofs.lemmas.List.{length-map, length-replicate, set_at}
 use Rattle.std.proofs.Math.ListN.{get_or-map}
 use Rattle.lists.specs.Choice.{and, or}

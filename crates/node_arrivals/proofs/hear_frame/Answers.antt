@@ -16,11 +16,13 @@ returns-then-len-gt-LONGEST_FRAME c =
     c.hear_burst.ensures
 
 pub slice_bounds-bytes-end : goal.slice_bounds-bytes-end
-slice_bounds-bytes-end c = let room : let f = c.args.frame in f.len ≤ length f.bytes = omega (arith, frame_sized c.args.frame _ c.well_formed.1.1.0, c.if-len-gt-LONGEST_FRAME.false) in
+slice_bounds-bytes-end c = let room : let f = c.args.frame in
+    f.len ≤ length f.bytes = omega (arith, frame_sized c.args.frame _ c.well_formed.1.1.0, c.if-len-gt-LONGEST_FRAME.false) in
     room
 
 pub slice_bounds-hear_burst-end-2 : goal.slice_bounds-hear_burst-end-2
-slice_bounds-hear_burst-end-2 c = let room : let f = c.args.frame in f.len ≤ length f.bytes = omega (arith, frame_sized c.args.frame _ c.well_formed.1.1.0, c.if-len-gt-LONGEST_FRAME.false) in
+slice_bounds-hear_burst-end-2 c = let room : let f = c.args.frame in
+    f.len ≤ length f.bytes = omega (arith, frame_sized c.args.frame _ c.well_formed.1.1.0, c.if-len-gt-LONGEST_FRAME.false) in
     sym (length-take-le _ _ room)
 
 pub returns : goal.returns

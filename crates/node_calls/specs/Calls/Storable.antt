@@ -27,7 +27,8 @@ use Rattle.protocol.specs.Steps.{
 }
 use Rattle.protocol.proofs.Steps.Answers.{Unchanged}
 use Rattle.protocol.specs.Steps.Cases.{begun}
-use Rattle.protocol.proofs.Steps.Cases.{Takes, takes_announce, takes_verify, takes_correct, takes_and_votes, takes_verify_final, Ends, discarding, running_on, stopping, message_ends, after_start, start_step_cases, arrival_step_cases}
+use Rattle.protocol.proofs.Steps.Cases.{Takes, takes_announce, takes_verify, takes_correct, takes_and_votes, takes_verify_final, Ends}
+use Rattle.protocol.proofs.Steps.Cases.{discarding, running_on, stopping, message_ends, after_start, start_step_cases, arrival_step_cases}
 use Rattle.protocol.proofs.Steps.Laws.{takes_rest}
 use Rattle.protocol.proofs.Steps.Output.{start_step_brief, arrival_step_brief}
 use Rattle.protocol.proofs.Steps.Refusals.{Heard, start_cases}

@@ -21,5 +21,6 @@ bounds-base-at c = here c
 
 pub returns : goal.returns
 unfolding link_at
-returns c = let place : c.least-at.result ≡ min (c.args.number - 1) (most_links - 1) = omega (arith, c.least-at.ensures, c.between.ensures) in
+returns c = let place : c.least-at.result ≡ min (c.args.number - 1) (most_links - 1) =
+    omega (arith, c.least-at.ensures, c.between.ensures) in
     ap (λ (k : ℕ). link_at c.args.base k) place

@@ -1,6 +1,7 @@
 -- Laws of decimal digits: one digit at a time, from the last, and how many there are.
 use Rattle.std.specs.Prelude.{ℕ, zero, suc, ◌+◌, ◌-◌, ◌/◌, ◌%◌, ◌^◌, ◌≤◌, ◌<◌, ◌≡◌, List, [], ◌∷◌, ◌++◌, ltb, length, set, drop}
-use Rattle.std.proofs.Common.{sym, ap, ◌∙◌, append_assoc, append-nil, pow-suc, arith, lt-ltb, le-ltb, length-append, length-set, drop_of_length-le, drop-cons, drop-set-lt, get_or-set_same}
+use Rattle.std.proofs.Common.{sym, ap, ◌∙◌, append_assoc, append-nil, pow-suc, arith}
+use Rattle.std.proofs.Common.{lt-ltb, le-ltb, length-append, length-set, drop_of_length-le, drop-cons, drop-set-lt, get_or-set_same}
 use Rattle.lists.specs.Choice.Laws.{choose_yes, choose_no, choose_ind}
 use Rattle.print.specs.Decimal.{most_digits, last_digits, decimal_text, field_text}
 
@@ -11,7 +12,8 @@ store_front bytes i x h =
     ∙ ap (λ (y : ℕ). y ∷ drop (suc i) (set bytes i x)) (get_or-set_same bytes i x 0 h)
     ∙ ap (λ (l : List ℕ). x ∷ l) (drop-set-lt (suc i) bytes i x (omega arith))
 
-pub digits_begin : (v : ℕ) (bytes : List ℕ) → length bytes ≤ most_digits → decimal_text v ≡ last_digits most_digits v ++ drop most_digits bytes
+pub digits_begin : (v : ℕ) (bytes : List ℕ) → length bytes ≤ most_digits
+    → decimal_text v ≡ last_digits most_digits v ++ drop most_digits bytes
 unfolding decimal_text
 digits_begin v bytes h =
     sym (ap (λ (l : List ℕ). last_digits most_digits v ++ l) (drop_of_length-le bytes h) ∙ append-nil (last_digits most_digits v))

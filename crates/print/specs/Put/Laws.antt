@@ -29,7 +29,11 @@ put_as e p = rw e at p
 pub put_more : {out : List ℕ} {at : ℕ} (w : List ℕ) (j : ℕ) {o₁ : List ℕ} → j < length w → Put out at (take j w) o₁ (at + j)
     → Put out at (take (j + 1) w) (set o₁ (at + j) (get_or w j 0)) (at + (j + 1))
 put_more {out} {at} w j {o₁} h p =
-    let one : Put o₁ (at + j) (get_or w j 0 ∷ []) (set o₁ (at + j) (get_or w j 0)) (at + (j + 1)) = record { past = omega arith; is = refl } in
+    let one : Put o₁ (at + j) (get_or w j 0 ∷ []) (set o₁ (at + j) (get_or w j 0)) (at + (j + 1)) = record {
+      past = omega arith;
+      is =
+          refl;
+    } in
     rw (add-one j, take-suc w j 0) (rw add-one at (put_then p one))
 
 pub put_all : {out : List ℕ} {at : ℕ} (w : List ℕ) (j : ℕ) {o₁ : List ℕ} {end : ℕ}

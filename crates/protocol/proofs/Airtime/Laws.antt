@@ -127,6 +127,7 @@ unfolding relayed_slots sum_over
 final_not_relayed own v = omega (arith, (final_part own v).1)
 
 pub slots_append : (own : ℕ) (a b : List Message)
-    → (own_slots own (a ++ b) ≡ own_slots own a + own_slots own b) × (relayed_slots own (a ++ b) ≡ relayed_slots own a + relayed_slots own b)
+    → (own_slots own (a ++ b) ≡ own_slots own a + own_slots own b) × (relayed_slots own
+    (a ++ b) ≡ relayed_slots own a + relayed_slots own b)
 unfolding own_slots relayed_slots
 slots_append own a b = (sum_over_append a b (own_part own), sum_over_append a b (relayed_part own))

@@ -38,7 +38,8 @@ base_of_link b a one other = elim (dec_lt a b) [
 
 -- two bases at the ends of one link are one
 pub link_injective : (b a c : ℕ) → 1 ≤ a → 1 ≤ c → a ≢ b → c ≢ b → link_to b a ≡ link_to b c → a ≡ c
-link_injective b a c one_a one_c other_a other_c e = sym (base_of_link b a one_a other_a) ∙ ap (base_at b) e ∙ base_of_link b c one_c other_c
+link_injective b a c one_a one_c other_a other_c e =
+    sym (base_of_link b a one_a other_a) ∙ ap (base_at b) e ∙ base_of_link b c one_c other_c
 
 -- ---- they stay within a net of n bases
 pub link_range : (n b a : ℕ) → 1 ≤ b → b ≤ n → 1 ≤ a → a ≤ n → a ≢ b → (1 ≤ link_to b a) × (link_to b a ≤ n - 1)

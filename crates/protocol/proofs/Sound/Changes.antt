@@ -33,12 +33,14 @@ module _ {n : ℕ} {l : Link} (P : LinkParts n l) where
           go : used l < n + 1 → l.verify_count ≤ used l → used (with_announce l g) ≤ n + 1
           go h k = unfold used in omega (arith, h, k, bit_most (announces (with_announce l g)))
 
-  pub vector_parts : (kind : ℕ) (v : List ℕ) → (kind ≡ 3) ⊎ (kind ≡ 4) → ListParts n (pad_to most_bases v) → LinkParts n (with_vector l kind v)
+  pub vector_parts : (kind : ℕ) (v : List ℕ) → (kind ≡ 3) ⊎ (kind ≡ 4) → ListParts n (pad_to most_bases v)
+      → LinkParts n (with_vector l kind v)
   unfolding with_vector verifies_of held_sound used announces
   vector_parts kind v k L = record { room = P.room; above_zero = P.above_zero; apart = P.apart; behind = P.behind; held = held k }
     where
       held : (kind ≡ 3) ⊎ (kind ≡ 4)
-          → choose (eqb kind 0) (zeros (pad_to most_bases v)) (and (or (eqb kind 3) (eqb kind 4)) (list_sound n (pad_to most_bases v))) ≡ true
+          → choose (eqb kind 0) (zeros (pad_to most_bases v)) (and (or (eqb kind 3) (eqb kind 4)) (list_sound n
+          (pad_to most_bases v))) ≡ true
       held (inl e) = unfold choose and or in rw e (parts_list L)
       held (inr e) = unfold choose and or in rw e (parts_list L)
 

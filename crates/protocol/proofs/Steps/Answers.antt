@@ -106,7 +106,8 @@ pub start_discarded : (b : Base) (room : ℕ) → idle b ≡ false → Unchanged
 start_discarded b room on = start_cases (Unchanged b) b room (λ r _. refuses_unchanged b r)
     (λ _. start_step_cases (Unchanged b) b (λ off. clash off on) (λ _. discards_unchanged b))
 
-discarded_step : (b : Base) (i : ℕ) (m : Message) → idle b ≡ false → (arrival_step b i m).answer ≡ discarded → Unchanged b (arrival_step b i m)
+discarded_step : (b : Base) (i : ℕ) (m : Message) → idle b ≡ false → (arrival_step b i m).answer ≡ discarded
+    → Unchanged b (arrival_step b i m)
 discarded_step b i m on =
     arrival_step_cases (λ (d : Done). d.answer ≡ discarded → Unchanged b d) b i m (λ _ _. discards_unchanged b) (λ off. clash off on)
     (λ _ e. subst (Unchanged b) (sym (message_discarded b i m e)) (discards_unchanged b))

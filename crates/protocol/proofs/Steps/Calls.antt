@@ -47,7 +47,8 @@ after_setting b (c ∷ calls) S bytes =
     let A = after_setting (called b c).base calls H.sized bytes.1 in
     record { n = A.n ∙ H.setting.n; t = A.t ∙ H.setting.t; own = A.own ∙ H.setting.own }
 
-pub after_sound : (b : Base) (calls : List Call) → Sized b → AllBytes calls → record_refusal b ≡ 0 → record_refusal (after_calls b calls) ≡ 0
+pub after_sound : (b : Base) (calls : List Call) → Sized b → AllBytes calls → record_refusal b ≡ 0
+    → record_refusal (after_calls b calls) ≡ 0
 unfolding after_calls
 after_sound b [] S bytes e = e
 after_sound b (c ∷ calls) S bytes e =

@@ -102,7 +102,8 @@ message_ends b i (verify_final v) = choose_ind (Ends b i (verify_final v)) _ (λ
 unfoldable pub after_start : Base → Done → Done
 after_start b d = record { answer = d.answer; base = d.base; says = announce b.own ∷ (verify b.own ∷ d.says) }
 
-pub start_step_cases : (P : Done → Type 0) (b : Base) → (idle b ≡ true → P (begins b)) → (idle b ≡ false → P (discards b)) → P (start_step b)
+pub start_step_cases : (P : Done → Type 0) (b : Base) → (idle b ≡ true → P (begins b)) → (idle b ≡ false → P (discards b))
+    → P (start_step b)
 unfolding start_step
 start_step_cases P b = choose_ind P (idle b)
 

@@ -44,7 +44,8 @@ announced_kept {b} {c = c} T h e =
 pub announced_added : (b : Base) (i g : ℕ) → i < link_count b → i < length b.links → 1 ≤ g → announces (link_at b i) ≡ false
     → Inserted g (announced_to b) (announced_to (with_link b i (with_announce (link_at b i) g)))
 unfolding with_announce with_link link_count
-announced_added b i g below h some silent = announced_more (link_count b) (link_at b) (link_at (with_link b i (with_announce (link_at b i) g))) i
+announced_added b i g below h some silent =
+    announced_more (link_count b) (link_at b) (link_at (with_link b i (with_announce (link_at b i) g))) i
     g below silent some (ap (λ (l : Link). l.announce) (stored_same b i _ h)) (stored_other b i _)
 
 pub takes_adds : {b : Base} {i : ℕ} {m : Message} {c : Base} {said : List Message} → Takes b i m c said → i < link_count b

@@ -93,9 +93,14 @@ module _ (c : Base) (N : NetSize c.n) (few : c.t ≤ most_faulty c.n) (blank : H
       ∙ no_correct d.n (link_at c j) v (blank j (omega (arith, link_room d))).held) ∙ (unfold bit in refl))
 
   no_vote : (v : List ℕ) → votes (holding_vector c i 3 v) v ≡ true → ⊥
-  no_vote v e = omega (arith, (vote_parts (holding_vector c i 3 v) v e).correct, correct_most (holding_vector c i 3 v) v (stored_other c i _))
+  no_vote v e = omega (
+    arith,
+    (vote_parts (holding_vector c i 3 v) v e).correct,
+    correct_most (holding_vector c i 3 v) v (stored_other c i _),
+  )
 
-  silent_not_prime : {m : Message} {d : Base} {said : List Message} (T : Takes c i m d said) → (changed T).announce ≡ 0 → prime_holds d ≡ true
+  silent_not_prime : {m : Message} {d : Base} {said : List Message} (T : Takes c i m d said) → (changed T).announce ≡ 0
+      → prime_holds d ≡ true
       → ⊥
   silent_not_prime {d = d} T e = unannounced_not_prime d (subst NetSize (sym (takes_rest T).setting.n) N)
       (takes_each (λ (j : ℕ) (l : Link). announces l ≡ false) most_links T fits (no_announce (changed T) e)

@@ -33,7 +33,8 @@ unless_cases : (P : Done → Type 0) (r : ℕ) (b : Base) (d : Done) → (r ≢ 
 unfolding unless
 unless_cases P r b d down on = choose_ind P (eqb r 0) (λ e. on (eqb-true r 0 e)) (λ e. down (eqb-false r 0 e))
 
-pub start_cases : (P : Done → Type 0) (b : Base) (room : ℕ) → ((r : ℕ) → r ≢ 0 → P (refuses b r)) → (record_refusal b ≡ 0 → P (start_step b))
+pub start_cases : (P : Done → Type 0) (b : Base) (room : ℕ) → ((r : ℕ) → r ≢ 0 → P (refuses b r)) → (record_refusal b ≡ 0
+    → P (start_step b))
     → P (start b room)
 unfolding start
 start_cases P b room down on =

@@ -69,7 +69,8 @@ valid_fits b m e w =
     omega (arith, w.count, (expected_range (kind_of m) b.n most_bases (omega (arith, N.least)) N.most).1)
 
 -- the list that becomes final fits in a frame
-pub decides_fits : {c : Base} {m : Message} {state : ℕ} {v : List ℕ} → c.n ≤ most_bases → length (ids_of m) ≤ most_bases → Decides c m state v
+pub decides_fits : {c : Base} {m : Message} {state : ℕ} {v : List ℕ} → c.n ≤ most_bases → length (ids_of m) ≤ most_bases
+    → Decides c m state v
     → length v ≤ most_bases
 decides_fits {c} h k (decides_prime H e) = omega (arith, length_sort (certified c), (prime_parts c e).count)
 decides_fits h k (decides_secondary H e) = k

@@ -18,7 +18,8 @@ unfolding reading_of
 returns-then-refusal-ne0 c = let r = c.check-refusal.ensures in chosen_no _ (ne_eqb _ 0 (λ z. c.if-refusal-ne0.true (r ∙ z))) (ap Refused r)
 
 pub overflow_sub-kind : goal.overflow_sub-kind
-overflow_sub-kind c = let framed : Framed c.args.burst.now = read_passed c.args.n _ (sym c.check-refusal.ensures ∙ c.if-refusal-ne0.false) in
+overflow_sub-kind c = let framed : Framed c.args.burst.now =
+    read_passed c.args.n _ (sym c.check-refusal.ensures ∙ c.if-refusal-ne0.false) in
     omega (arith, framed)
 
 pub bounds-burst-len : goal.bounds-burst-len
@@ -26,16 +27,19 @@ bounds-burst-len c = let framed : Framed c.args.burst.now = read_passed c.args.n
     omega (arith, framed)
 
 pub overflow_sub-count : goal.overflow_sub-count
-overflow_sub-count c = let framed : Framed c.args.burst.now = read_passed c.args.n _ (sym c.check-refusal.ensures ∙ c.if-refusal-ne0.false) in
+overflow_sub-count c = let framed : Framed c.args.burst.now =
+    read_passed c.args.n _ (sym c.check-refusal.ensures ∙ c.if-refusal-ne0.false) in
     omega (arith, framed)
 
 pub bounds-burst-len-2 : goal.bounds-burst-len-2
-bounds-burst-len-2 c = let framed : Framed c.args.burst.now = read_passed c.args.n _ (sym c.check-refusal.ensures ∙ c.if-refusal-ne0.false) in
+bounds-burst-len-2 c = let framed : Framed c.args.burst.now =
+    read_passed c.args.n _ (sym c.check-refusal.ensures ∙ c.if-refusal-ne0.false) in
     omega (arith, framed)
 
 pub overflow_sub-start : goal.overflow_sub-start
 unfolding count_byte from_end
-overflow_sub-start c = let framed : Framed c.args.burst.now = read_passed c.args.n _ (sym c.check-refusal.ensures ∙ c.if-refusal-ne0.false) in
+overflow_sub-start c = let framed : Framed c.args.burst.now =
+    read_passed c.args.n _ (sym c.check-refusal.ensures ∙ c.if-refusal-ne0.false) in
     omega (arith, framed, c.frame_bytes.ensures)
 
 pub returns : goal.returns

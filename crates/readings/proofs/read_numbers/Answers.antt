@@ -15,7 +15,8 @@ alike p q = λ i. read_numbers (p i) (q i)
 
 pub returns-in-Message : goal.returns-in-Message
 unfolding read_numbers
-returns-in-Message c = let message : let a = c.args in reading_of a.n a.burst.now ≡ Message c.in-Message.kind c.in-Message.count c.in-Message.start = sym c.read.ensures ∙ c.in-Message.is in
+returns-in-Message c = let message : let a = c.args in
+    reading_of a.n a.burst.now ≡ Message c.in-Message.kind c.in-Message.count c.in-Message.start = sym c.read.ensures ∙ c.in-Message.is in
     sym
     (alike message
     (ap id_array (sym (body_there _ _ _ _ _ message)) ∙ sym c.identifiers_at.ensures))

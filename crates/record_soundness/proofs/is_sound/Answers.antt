@@ -23,23 +23,32 @@ returns-then-not-sent_sound c = let state : leb c.args.base.state 3 ≡ true = l
 
 pub returns-then-not-links_sound : goal.returns-then-not-links_sound
 returns-then-not-links_sound c = let state : leb c.args.base.state 3 ≡ true = le-leb _ _ c.if-base-gt-SECONDARY.false in
-    let sent : let b = c.args.base in choose (eqb b.state 0) (eqb b.sent 0) (leb b.sent 1) ≡ true = sym c.sent_sound.ensures ∙ c.if-not-sent_sound.false in
-    let links : let b = c.args.base in c.links_sound.result ≡ all most_links (λ i. place_sound (choose (eqb b.state 0) 1 b.n) i (link_at b i)) = let b = c.args.base in c.links_sound.ensures ∙ ap (λ (n : ℕ). all most_links (λ i. place_sound n i (link_at b i))) c.heard_size.ensures in
+    let sent : let b = c.args.base in
+    choose (eqb b.state 0) (eqb b.sent 0) (leb b.sent 1) ≡ true = sym c.sent_sound.ensures ∙ c.if-not-sent_sound.false in
+    let links : let b = c.args.base in
+    c.links_sound.result ≡ all most_links (λ i. place_sound (choose (eqb b.state 0) 1 b.n) i (link_at b i)) = let b = c.args.base in
+    c.links_sound.ensures ∙ ap (λ (n : ℕ). all most_links (λ i. place_sound n i (link_at b i))) c.heard_size.ensures in
     and_goes_on state (and_goes_on sent
     (and_fails _ (sym links ∙ c.if-not-links_sound.true))) ∙ sym (sound_flat _)
 
 pub returns-then-not-announces_sound : goal.returns-then-not-announces_sound
 returns-then-not-announces_sound c = let state : leb c.args.base.state 3 ≡ true = le-leb _ _ c.if-base-gt-SECONDARY.false in
-    let sent : let b = c.args.base in choose (eqb b.state 0) (eqb b.sent 0) (leb b.sent 1) ≡ true = sym c.sent_sound.ensures ∙ c.if-not-sent_sound.false in
-    let links : let b = c.args.base in c.links_sound.result ≡ all most_links (λ i. place_sound (choose (eqb b.state 0) 1 b.n) i (link_at b i)) = let b = c.args.base in c.links_sound.ensures ∙ ap (λ (n : ℕ). all most_links (λ i. place_sound n i (link_at b i))) c.heard_size.ensures in
+    let sent : let b = c.args.base in
+    choose (eqb b.state 0) (eqb b.sent 0) (leb b.sent 1) ≡ true = sym c.sent_sound.ensures ∙ c.if-not-sent_sound.false in
+    let links : let b = c.args.base in
+    c.links_sound.result ≡ all most_links (λ i. place_sound (choose (eqb b.state 0) 1 b.n) i (link_at b i)) = let b = c.args.base in
+    c.links_sound.ensures ∙ ap (λ (n : ℕ). all most_links (λ i. place_sound n i (link_at b i))) c.heard_size.ensures in
     and_goes_on state (and_goes_on sent
     (and_goes_on (sym links ∙ c.if-not-links_sound.false)
     (and_fails _ (sym c.announces_sound.ensures ∙ c.if-not-announces_sound.true)))) ∙ sym (sound_flat _)
 
 pub returns : goal.returns
 returns c = let state : leb c.args.base.state 3 ≡ true = le-leb _ _ c.if-base-gt-SECONDARY.false in
-    let sent : let b = c.args.base in choose (eqb b.state 0) (eqb b.sent 0) (leb b.sent 1) ≡ true = sym c.sent_sound.ensures ∙ c.if-not-sent_sound.false in
-    let links : let b = c.args.base in c.links_sound.result ≡ all most_links (λ i. place_sound (choose (eqb b.state 0) 1 b.n) i (link_at b i)) = let b = c.args.base in c.links_sound.ensures ∙ ap (λ (n : ℕ). all most_links (λ i. place_sound n i (link_at b i))) c.heard_size.ensures in
+    let sent : let b = c.args.base in
+    choose (eqb b.state 0) (eqb b.sent 0) (leb b.sent 1) ≡ true = sym c.sent_sound.ensures ∙ c.if-not-sent_sound.false in
+    let links : let b = c.args.base in
+    c.links_sound.result ≡ all most_links (λ i. place_sound (choose (eqb b.state 0) 1 b.n) i (link_at b i)) = let b = c.args.base in
+    c.links_sound.ensures ∙ ap (λ (n : ℕ). all most_links (λ i. place_sound n i (link_at b i))) c.heard_size.ensures in
     and_goes_on state (and_goes_on sent
     (and_goes_on (sym links ∙ c.if-not-links_sound.false)
     (and_goes_on (sym c.announces_sound.ensures ∙ c.if-not-announces_sound.false) c.final_sound.ensures)))

@@ -11,7 +11,8 @@ loop-i-init c = passed_none _ _
 
 pub returns-then-not-place_sound : goal.returns-then-not-place_sound
 unfolding link_at
-returns-then-not-place_sound c = passed_fails _ _ c.loop-i.invariant c.loop-i-test.true (sym c.place_sound.ensures ∙ c.if-not-place_sound.true)
+returns-then-not-place_sound c =
+    passed_fails _ _ c.loop-i.invariant c.loop-i-test.true (sym c.place_sound.ensures ∙ c.if-not-place_sound.true)
 
 pub loop-i-preserved : goal.loop-i-preserved
 unfolding link_at

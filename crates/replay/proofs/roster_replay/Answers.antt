@@ -15,7 +15,8 @@ use Rattle.replay.proofs.roster_replay.Goals as goal
 
 pub returns-then-out-lt-REPORT_ROOM : goal.returns-then-out-lt-REPORT_ROOM
 unfolding replay_length replay_output
-returns-then-out-lt-REPORT_ROOM c = let e = lt-ltb _ _ c.if-out-lt-REPORT_ROOM.true in record { value = chosen_yes _ e refl; out_after = chosen_yes _ e refl; upper_bound = omega arith }
+returns-then-out-lt-REPORT_ROOM c = let e = lt-ltb _ _ c.if-out-lt-REPORT_ROOM.true in
+    record { value = chosen_yes _ e refl; out_after = chosen_yes _ e refl; upper_bound = omega arith }
 
 pub returns-then-schedule-gt-LONGEST_SCHEDULE : goal.returns-then-schedule-gt-LONGEST_SCHEDULE
 unfolding replay_length replay_output over
@@ -24,7 +25,12 @@ returns-then-schedule-gt-LONGEST_SCHEDULE c = let s = c.args.schedule.now in
     let P = put_as (long_report s c.if-schedule-gt-LONGEST_SCHEDULE.true)
     (put_fits line_room (omega (arith, room)) (c.refused_line.ensures.value, c.refused_line.ensures.out_after)) in
     let f = put_front (omega (arith, P.past, c.refused_line.ensures.upper_bound, room)) P in
-    let e = le-ltb _ _ room in record { value = chosen_no _ e f.0; out_after = chosen_no _ e f.1; upper_bound = omega (arith, c.refused_line.ensures.upper_bound, room) }
+    let e = le-ltb _ _ room in record {
+      value = chosen_no _ e f.0;
+      out_after = chosen_no _ e f.1;
+      upper_bound =
+          omega (arith, c.refused_line.ensures.upper_bound, room);
+    }
 
 pub put_report-requires : goal.put_report-requires
 unfolding begun_net
@@ -44,4 +50,9 @@ returns c = let s = c.args.schedule.now in
     let P = put_as (lines_report s c.if-schedule-gt-LONGEST_SCHEDULE.false
     c.read_header.ensures.result_value) c.put_report.ensures.put in
     let f = put_front (omega (arith, P.past, c.put_report.ensures.upper_bound, room)) P in
-    let e = le-ltb _ _ room in record { value = chosen_no _ e f.0; out_after = chosen_no _ e f.1; upper_bound = omega (arith, c.put_report.ensures.upper_bound, room) }
+    let e = le-ltb _ _ room in record {
+      value = chosen_no _ e f.0;
+      out_after = chosen_no _ e f.1;
+      upper_bound =
+          omega (arith, c.put_report.ensures.upper_bound, room);
+    }

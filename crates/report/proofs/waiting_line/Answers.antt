@@ -11,7 +11,8 @@ use Rattle.schedule.specs.Report.{line_room, feed, waiting_text, waiting_line}
 use Rattle.report.proofs.waiting_line.Goals as goal
 
 pub returns-then-not-has_room : goal.returns-then-not-has_room
-returns-then-not-has_room c = let p = not_put line_room _ _ _ (sym c.has_room.ensures ∙ c.if-not-has_room.true) in record { value = p.0; out_after = p.1; upper_bound = omega arith }
+returns-then-not-has_room c = let p = not_put line_room _ _ _ (sym c.has_room.ensures ∙ c.if-not-has_room.true) in
+    record { value = p.0; out_after = p.1; upper_bound = omega arith }
 
 pub returns : goal.returns
 unfolding waiting_line

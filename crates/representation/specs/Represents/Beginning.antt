@@ -1,5 +1,6 @@
 -- The program's net at the beginning: made with n and t, given its identifiers, told its faulty links.
-use Rattle.std.specs.Prelude.{ℕ, zero, suc, ◌+◌, ◌-◌, ◌≤◌, ◌<◌, ◌≡◌, true, false, not, List, [], ◌∷◌, ◌++◌, map, eqb, length, get_or, take, set, replicate}
+use Rattle.std.specs.Prelude.{ℕ, zero, suc, ◌+◌, ◌-◌, ◌≤◌, ◌<◌, ◌≡◌, true, false, not}
+use Rattle.std.specs.Prelude.{List, [], ◌∷◌, ◌++◌, map, eqb, length, get_or, take, set, replicate}
 use Rattle.std.proofs.Math.Path.{refl, ap, ap₂, subst}
 use Rattle.std.proofs.Common.{sym, ◌∙◌, add-one, arith, lt-ltb, length-take, length-set, take-suc-set}
 use Rattle.std.proofs.Math.Decide.{ℕ_discrete}

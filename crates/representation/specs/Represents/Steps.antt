@@ -105,7 +105,8 @@ module _ (w : StoredNet) (e : Event) (Z : SizedNet w) (B : in_range (at e) most_
       base y = ap (λ (x : Node). x.base) (node_now y) ∙ replaced_map (λ (x : Node). x.base) (at e) u (node_at w) y
           ∙ ap (λ x. replaced (at e) x (λ z. (node_at w z).base) y) (marks_base e (Nodes.node_after v d) ∙ after_base v d)
 
-      log : (y : ℕ) → log_of (node_at (with_node w (at e) u) y) ≡ replaced (at e) (log_of v ++ map encode d.says) (λ z. log_of (node_at w z)) y
+      log : (y : ℕ) → log_of (node_at (with_node w (at e) u) y) ≡ replaced (at e) (log_of v ++ map encode d.says) (λ z. log_of
+          (node_at w z)) y
       log y = ap log_of (node_now y) ∙ replaced_map log_of (at e) u (node_at w) y
           ∙ ap (λ x. replaced (at e) x (λ z. log_of (node_at w z)) y) (marks_log e (Nodes.node_after v d) ∙ after_log v d sized_here room)
 

@@ -86,7 +86,8 @@ next_continues s begin st before =
     (λ _. line_continues s begin st st.at (event_line st.n s st.at) (event_found st.n s st.at) (before none)))
 
 -- ---- many lines
-pub lines_continue : (s : List ℕ) (begin : Progress) (k : ℕ) → Unrefused scheduled (Continues begin) (repeat k (next_line scheduled s) begin)
+pub lines_continue : (s : List ℕ) (begin : Progress) (k : ℕ)
+    → Unrefused scheduled (Continues begin) (repeat k (next_line scheduled s) begin)
 lines_continue s begin k =
     repeat_ind (Unrefused scheduled (Continues begin))
     (next_line scheduled s) (λ st p. next_continues s begin st p) k begin (λ _. continues_none begin)

@@ -21,7 +21,8 @@ list_one : (v : ℕ) → list_text (v ∷ []) ≡ space ∷ decimal_text v
 unfolding list_text
 list_one v = append-nil (space ∷ decimal_text v)
 
-pub list_more : (l : List ℕ) (i : ℕ) → i < length l → list_text (take i l) ++ (space ∷ decimal_text (get_or l i 0)) ≡ list_text (take (i + 1) l)
+pub list_more : (l : List ℕ) (i : ℕ) → i < length l
+    → list_text (take i l) ++ (space ∷ decimal_text (get_or l i 0)) ≡ list_text (take (i + 1) l)
 list_more l i h =
     sym (ap (λ (k : ℕ). list_text (take k l)) (add-one i) ∙ ap list_text (take-suc l i 0 h) ∙ list_append (take i l) (get_or l i 0 ∷ [])
     ∙ ap (λ (t : List ℕ). list_text (take i l) ++ t) (list_one (get_or l i 0)))

@@ -130,7 +130,8 @@ module _ (s : List ℕ) (e : (meaning s).refusal ≡ 0) where
   A : StatesAgree s (meaning s)
   A = states_agree s e
 
-  base_line_lem : (b : ℕ) → BaseOf n b → line_of (base_lines n W ++ waiting_line left) b ≡ of_base b (agreed_text (W.base b).state (given_ids s))
+  base_line_lem : (b : ℕ) → BaseOf n b
+      → line_of (base_lines n W ++ waiting_line left) b ≡ of_base b (agreed_text (W.base b).state (given_ids s))
   base_line_lem b B = base_at_lem n W left b B ∙ ap (of_base b) (A.text b B)
 
   says_ends : line_of (base_lines n W ++ waiting_line left) (suc n) ≡ of_waiting 0
@@ -147,7 +148,8 @@ module _ (s : List ℕ) (e : (meaning s).refusal ≡ 0) where
         where
           cases : (x : Bool) → eqb (W.base a).state 0 ≡ x → 1 ≤ (W.base a).state
           cases true q = absurd
-              (started a C (base_line_lem a C ∙ ap (of_base a) (idle_text_lem (W.base a).state (given_ids s) (eqb-true (W.base a).state 0 q))))
+              (started a C (base_line_lem a C
+              ∙ ap (of_base a) (idle_text_lem (W.base a).state (given_ids s) (eqb-true (W.base a).state 0 q))))
           cases false q = omega (arith, eqb-false (W.base a).state 0 q)
 
   says_whole : Reports n (meaning s).faulty W (given_ids s) (base_lines n W ++ waiting_line left)

@@ -11,7 +11,8 @@ use Rattle.protocol.specs.Record.{final_list}
 use Rattle.protocol.specs.Sound.{idle}
 use Rattle.protocol.proofs.Sound.Laws.{record_passed, sound_parts}
 use Rattle.protocol.specs.Steps.{leader_of}
-use Rattle.protocol.specs.Net.{Net, Pair, Event, at, replaced, refusal, net_after, happens, run, started, has_stopped, waiting, leader_named}
+use Rattle.protocol.specs.Net.{Net, Pair, Event, at, replaced, refusal}
+use Rattle.protocol.specs.Net.{net_after, happens, run, started, has_stopped, waiting, leader_named}
 use Rattle.protocol.specs.Agreement.{BaseOf, Setting, Fresh, AllProper, true_identifiers}
 use Rattle.protocol.proofs.Agreement.Cases.{prime_or_secondary}
 use Rattle.protocol.proofs.Agreement.Theorem.{agreement}

@@ -97,7 +97,8 @@ base_texts (suc k) W = base_texts k W ++ (of_base (suc k) (state_text (W.base (s
 base_first : (number : ℕ) (b : Base) (rest : List ℕ) → lines_of (base_line number b ++ rest) ≡ of_base number (state_text b) ∷ lines_of rest
 unfolding base_line of_base
 base_first number b rest =
-    ap lines_of (append_assoc (of_base number (state_text b)) feed rest) ∙ first_line (of_base number (state_text b)) rest (one_base number b)
+    ap lines_of (append_assoc (of_base number (state_text b)) feed rest)
+    ∙ first_line (of_base number (state_text b)) rest (one_base number b)
 
 bases_first : (k : ℕ) (W : Net) (rest : List ℕ) → lines_of (base_lines k W ++ rest) ≡ base_texts k W ++ lines_of rest
 unfolding base_lines
@@ -129,7 +130,8 @@ texts_at (suc k) W b B = cases (eqb b (suc k)) refl (λ C. texts_at k W b C)
         → get_or (base_texts (suc k) W) (b - 1) [] ≡ of_base b (state_text (W.base b))
     cases true e before =
         let q = eqb-true b (suc k) e in
-        get_or_at (base_texts k W) _ [] [] (b - 1) (texts_length k W ∙ omega arith) ∙ ap (λ (j : ℕ). of_base j (state_text (W.base j))) (sym q)
+        get_or_at (base_texts k W) _ [] [] (b - 1) (texts_length k W ∙ omega arith)
+        ∙ ap (λ (j : ℕ). of_base j (state_text (W.base j))) (sym q)
     cases false e before =
         let q = eqb-false b (suc k) e in
         get_or-append (base_texts k W) _ [] (b - 1) (omega (arith, texts_length k W, B.least, B.most))

@@ -10,19 +10,25 @@ use lib.ListN.{length}
 use Rattle.starting.proofs.start.Goals as goal
 
 pub returns-then-turned_down-ne0 : goal.returns-then-turned_down-ne0
-returns-then-turned_down-ne0 c = let number : let a = c.args in c.first_of-turned_down.result ≡ first (record_refusal a.base) (output_refusal (length a.out.now)) = c.first_of-turned_down.ensures ∙ ap₂ first c.record_refusal.ensures c.output_refusal.ensures in
+returns-then-turned_down-ne0 c = let number : let a = c.args in
+    c.first_of-turned_down.result ≡ first (record_refusal a.base) (output_refusal (length a.out.now)) =
+    c.first_of-turned_down.ensures ∙ ap₂ first c.record_refusal.ensures c.output_refusal.ensures in
     does_as (start_down c.args.base _ _ number c.if-turned_down-ne0.true)
     (refuses_does _ _ _ c.refused.ensures)
 
 pub returns-then-base-ne-IDLE : goal.returns-then-base-ne-IDLE
 unfolding with_state
-returns-then-base-ne-IDLE c = let number : let a = c.args in c.first_of-turned_down.result ≡ first (record_refusal a.base) (output_refusal (length a.out.now)) = c.first_of-turned_down.ensures ∙ ap₂ first c.record_refusal.ensures c.output_refusal.ensures in
+returns-then-base-ne-IDLE c = let number : let a = c.args in
+    c.first_of-turned_down.result ≡ first (record_refusal a.base) (output_refusal (length a.out.now)) =
+    c.first_of-turned_down.ensures ∙ ap₂ first c.record_refusal.ensures c.output_refusal.ensures in
     let b = c.args.base in
     does_as (start_on b _ _ number c.if-turned_down-ne0.false c.if-base-ne-IDLE.true)
     (discards_does b _ c.discarded.ensures)
 
 pub returns : goal.returns
-returns c = let number : let a = c.args in c.first_of-turned_down.result ≡ first (record_refusal a.base) (output_refusal (length a.out.now)) = c.first_of-turned_down.ensures ∙ ap₂ first c.record_refusal.ensures c.output_refusal.ensures in
+returns c = let number : let a = c.args in
+    c.first_of-turned_down.result ≡ first (record_refusal a.base) (output_refusal (length a.out.now)) =
+    c.first_of-turned_down.ensures ∙ ap₂ first c.record_refusal.ensures c.output_refusal.ensures in
     let b = c.args.base in
     let w = c.begin-begun.ensures in
     let none = c.if-turned_down-ne0.false in

@@ -8,7 +8,8 @@ use Rattle.state_text.proofs.put_list.Given as goal
 
 abbrev pub invariant-loop-i : goal.invariant-loop-i
 invariant-loop-i l =
-    (l.i ≤ length l.ids) × ((l.end ≤ l.at + identifier_room * l.i) × ((length l.out ≡ length l.initial.out) × Put l.initial.out l.at (list_text (take l.i l.ids)) l.out l.end))
+    (l.i ≤ length l.ids) × ((l.end ≤ l.at + identifier_room * l.i) × ((length l.out ≡ length l.initial.out) × Put l.initial.out l.at
+    (list_text (take l.i l.ids)) l.out l.end))
 
 abbrev pub decreases-loop-i : goal.decreases-loop-i
 decreases-loop-i l = length l.ids - l.i

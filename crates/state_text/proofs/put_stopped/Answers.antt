@@ -22,14 +22,19 @@ slice_bounds-ids-end c = let sized : length c.args.ids ≡ most_bases = c.well_f
 pub slice_bounds-put_list-end : goal.slice_bounds-put_list-end
 slice_bounds-put_list-end c = let sized : length c.args.ids ≡ most_bases = c.well_formed.1.1.1.0.1.0.1 in
     let room : c.least-count.result ≤ length c.args.ids = omega (arith, sized, c.least-count.ensures) in
-    let count_is : length (take c.least-count.result c.args.ids) ≡ c.least-count.result = length-take-le c.least-count.result c.args.ids room in
+    let count_is : length (take c.least-count.result c.args.ids) ≡ c.least-count.result =
+    length-take-le c.least-count.result c.args.ids room in
     sym count_is
 
 pub put_list-second-requires : goal.put_list-second-requires
 put_list-second-requires c = let sized : length c.args.ids ≡ most_bases = c.well_formed.1.1.1.0.1.0.1 in
     let room : c.least-count.result ≤ length c.args.ids = omega (arith, sized, c.least-count.ensures) in
-    let count_is : length (take c.least-count.result c.args.ids) ≡ c.least-count.result = length-take-le c.least-count.result c.args.ids room in
-    let A = put_fits (length c.args.word.now) (omega (arith, c.requires)) (c.put_text-first.ensures.value, c.put_text-first.ensures.out_after) in
+    let count_is : length (take c.least-count.result c.args.ids) ≡ c.least-count.result =
+    length-take-le c.least-count.result c.args.ids room in
+    let A = put_fits (length c.args.word.now) (omega (arith, c.requires)) (
+      c.put_text-first.ensures.value,
+      c.put_text-first.ensures.out_after,
+    ) in
     omega (arith, A.past, text_length A, count_is, c.least-count.ensures, c.requires)
 
 pub slice_bounds-ids-end-2 : goal.slice_bounds-ids-end-2
@@ -40,7 +45,8 @@ slice_bounds-ids-end-2 c = let sized : length c.args.ids ≡ most_bases = c.well
 pub slice_bounds-leader_of-end : goal.slice_bounds-leader_of-end
 slice_bounds-leader_of-end c = let sized : length c.args.ids ≡ most_bases = c.well_formed.1.1.1.0.1.0.1 in
     let room : c.least-count.result ≤ length c.args.ids = omega (arith, sized, c.least-count.ensures) in
-    let count_is : length (take c.least-count.result c.args.ids) ≡ c.least-count.result = length-take-le c.least-count.result c.args.ids room in
+    let count_is : length (take c.least-count.result c.args.ids) ≡ c.least-count.result =
+    length-take-le c.least-count.result c.args.ids room in
     sym
     count_is
 
@@ -48,8 +54,10 @@ pub returns : goal.returns
 unfolding final_text
 returns c = let sized : length c.args.ids ≡ most_bases = c.well_formed.1.1.1.0.1.0.1 in
     let room : c.least-count.result ≤ length c.args.ids = omega (arith, sized, c.least-count.ensures) in
-    let count_is : length (take c.least-count.result c.args.ids) ≡ c.least-count.result = length-take-le c.least-count.result c.args.ids room in
-    let list_is : take c.least-count.result c.args.ids ≡ take c.args.n c.args.ids = take_least c.args.n c.least-count.result most_bases c.args.ids sized c.least-count.ensures in
+    let count_is : length (take c.least-count.result c.args.ids) ≡ c.least-count.result =
+    length-take-le c.least-count.result c.args.ids room in
+    let list_is : take c.least-count.result c.args.ids ≡ take c.args.n c.args.ids =
+    take_least c.args.n c.least-count.result most_bases c.args.ids sized c.least-count.ensures in
     let w = c.args.word.now in
     let l = take c.args.n c.args.ids in
     let v = c.leader_of.result in

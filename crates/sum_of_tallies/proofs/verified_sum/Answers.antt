@@ -36,6 +36,7 @@ loop-i-preserved c = let v = c.verified_of-sum.ensures in
 pub returns : goal.returns
 returns c = let k = c.links_in-k.ensures in let a = c.args in
     let all : c.loop-i.i ≡ link_count a.base = unfold link_count in omega (arith, k) in (
-      c.loop-i.invariant.1.1 ∙ ap (λ (i : ℕ). Sums.sum i (λ c. sum_over (take a.count a.ids) (λ g. bit (holds_verify (link_at a.base c) g)))) all,
+      c.loop-i.invariant.1.1 ∙ ap (λ (i : ℕ). Sums.sum i (λ c. sum_over (take a.count a.ids) (λ g. bit (holds_verify
+          (link_at a.base c) g)))) all,
       omega (arith, k),
     )

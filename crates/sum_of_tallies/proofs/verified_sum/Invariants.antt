@@ -12,7 +12,8 @@ use Rattle.sum_of_tallies.proofs.verified_sum.Given as goal
 
 abbrev pub invariant-loop-i : goal.invariant-loop-i
 invariant-loop-i l = (l.i ≤ l.k)
-    × ((l.sum ≤ most_bases * l.i) × (l.sum ≡ Sums.sum l.i (λ m. sum_over (take l.count l.ids) (λ g. bit (holds_verify (link_at l.base m) g)))))
+    × ((l.sum ≤ most_bases * l.i) × (l.sum ≡ Sums.sum l.i (λ m. sum_over (take l.count l.ids) (λ g. bit (holds_verify
+    (link_at l.base m) g)))))
 
 abbrev pub decreases-loop-i : goal.decreases-loop-i
 decreases-loop-i l = l.k - l.i

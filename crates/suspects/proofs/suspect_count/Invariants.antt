@@ -10,14 +10,16 @@ use Rattle.suspects.proofs.suspect_count.Given as goal
 
 abbrev pub invariant-loop-j : goal.invariant-loop-j
 invariant-loop-j l =
-    (l.j ≤ l.i) × ((l.count ≤ l.initial.count + l.j) × (l.count ≡ l.initial.count + Sums.sum l.j (λ m. bit (suspect_pair l.link (link_at l.base m)))))
+    (l.j ≤ l.i) × ((l.count ≤ l.initial.count + l.j) × (l.count ≡ l.initial.count + Sums.sum l.j (λ m. bit (suspect_pair l.link
+    (link_at l.base m)))))
 
 abbrev pub decreases-loop-j : goal.decreases-loop-j
 decreases-loop-j l = l.i - l.j
 
 abbrev pub invariant-loop-i : goal.invariant-loop-i
 invariant-loop-i l = (l.i ≤ l.k) × ((l.count ≤ most_links * l.i) × (l.count ≡ Sums.sum l.i (λ m.
-    Sums.sum m (λ j. bit (suspect_pair (link_at l.base m) (link_at l.base j)))) + Sums.sum l.i (λ m. bit (suspect_own l.own (link_at l.base m)))))
+    Sums.sum m (λ j. bit (suspect_pair (link_at l.base m) (link_at l.base j)))) + Sums.sum l.i (λ m. bit (suspect_own l.own
+    (link_at l.base m)))))
 
 abbrev pub decreases-loop-i : goal.decreases-loop-i
 decreases-loop-i l = l.k - l.i

@@ -29,13 +29,15 @@ pub digits_close : (s : List ℕ) (i v : ℕ) → i < length s → is_digit (get
 unfolding digits_from
 digits_close s i v h e = ap (λ (l : List ℕ). digits_from l v i) (drop_one s i h) ∙ choose_no _ _ e
 
-pub digits_over : (s : List ℕ) (i v w : ℕ) → i < length s → is_digit (get_or s i 0) ≡ true → w ≡ with_digit v (get_or s i 0) → most_number < w
+pub digits_over : (s : List ℕ) (i v w : ℕ) → i < length s → is_digit (get_or s i 0) ≡ true → w ≡ with_digit v (get_or s i 0)
+    → most_number < w
     → digits_from (drop i s) v i ≡ Bad
 unfolding digits_from
 digits_over s i v w h e p more =
     ap (λ (l : List ℕ). digits_from l v i) (drop_one s i h) ∙ choose_yes _ _ e ∙ choose_yes _ _ (rw p at (lt-ltb _ _ more))
 
-pub digits_more : (s : List ℕ) (i v w : ℕ) → i < length s → is_digit (get_or s i 0) ≡ true → w ≡ with_digit v (get_or s i 0) → w ≤ most_number
+pub digits_more : (s : List ℕ) (i v w : ℕ) → i < length s → is_digit (get_or s i 0) ≡ true → w ≡ with_digit v (get_or s i 0)
+    → w ≤ most_number
     → digits_from (drop i s) v i ≡ digits_from (drop (i + 1) s) w (i + 1)
 unfolding digits_from
 digits_more s i v w h e p most =
@@ -56,7 +58,8 @@ unfolding number_at number_from is_digit and
 number_zero s i h e =
     ap (λ (l : List ℕ). number_from l i) (drop_one s i h) ∙ ap (λ (b : ℕ). number_from (b ∷ drop (i + 1) s) i) e ∙ (unfold choose in refl)
 
-pub number_of_digits : (s : List ℕ) (i v : ℕ) → i < length s → is_digit (get_or s i 0) ≡ true → (get_or s i 0 ≡ 48 → ⊥) → v ≡ get_or s i 0 - 48
+pub number_of_digits : (s : List ℕ) (i v : ℕ) → i < length s → is_digit (get_or s i 0) ≡ true → (get_or s i 0 ≡ 48 → ⊥)
+    → v ≡ get_or s i 0 - 48
     → number_at s i ≡ digits_from (drop (i + 1) s) v (i + 1)
 unfolding number_at number_from
 number_of_digits s i v h e z p =

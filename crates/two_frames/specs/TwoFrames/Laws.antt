@@ -64,7 +64,8 @@ module _ (n kind next : ℕ) (ids output : List ℕ) (fit : two_fit n kind next 
     two_put =
         let size = front_length ∙ kind_size _ _ _ (fits_passed _ _ _ _ both_passed.0).0 ∙ sym (length_frame kind ids) in (
           chosen_yes _ fit (ap₂ two_of front_size (r ∙ ap size_of (put_length_lem _ _ _ _ rest_fits))),
-          chosen_yes _ fit (over_rest _ _ _ _ _ _ _ size refl (q ∙ put_output_lem _ _ _ _ both_passed.0) (s ∙ put_output_lem _ _ _ _ rest_fits)),
+          chosen_yes _ fit (over_rest _ _ _ _ _ _ _ size refl (q ∙ put_output_lem _ _ _ _ both_passed.0) (s
+              ∙ put_output_lem _ _ _ _ rest_fits)),
         )
 
 -- frames of a kind that there is, of its count, with twice the room, are written

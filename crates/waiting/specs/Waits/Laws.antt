@@ -36,7 +36,8 @@ module _ (v u : Node) (faulty : List Pair) (a b : ℕ) where
   unfolding waiting_between
   on_a_good_link count total apart eg t = chosen_no _ (or_neither (ne_eqb a b apart) (ap not (sym eg ∙ t))) (total ∙ rw count)
 
-pub total_most : (u : Node) (a : ℕ) {k r : ℕ} → r ≡ sum k (λ i. bit (not (heard_by u a (suc i)))) → k ≤ most_broadcasts → r ≤ most_broadcasts
+pub total_most : (u : Node) (a : ℕ) {k r : ℕ} → r ≡ sum k (λ i. bit (not (heard_by u a (suc i)))) → k ≤ most_broadcasts
+    → r ≤ most_broadcasts
 total_most u a {k} e h = omega (arith, bits_most k (λ i. not (heard_by u a (suc i))))
 
 -- ---- from one base, and from all

@@ -40,7 +40,8 @@ module _ (n kind : ℕ) (ids : List ℕ) (room : ℕ) (words : Below (2 ^ 32) id
   written_size = ap size_of ((write_passed n kind ids room none).size ∙ sym (length_frame kind ids))
 
 -- refused or not, the output past the length of the kind's frame is as it was
-pub write_past : (n kind : ℕ) (ids output : List ℕ) → drop (length_of kind n) (write_output n kind ids output) ≡ drop (length_of kind n) output
+pub write_past : (n kind : ℕ) (ids output : List ℕ)
+    → drop (length_of kind n) (write_output n kind ids output) ≡ drop (length_of kind n) output
 unfolding write_output
 write_past n kind ids output =
     choose_ind (λ (after : List ℕ). drop (length_of kind n) after ≡ drop (length_of kind n) output)

@@ -22,5 +22,14 @@ loop-size-preserved c =
 pub returns : goal.returns
 returns c =
     let e : c.loop-size.size + 1 ≡ suc c.args.t = omega arith in
-    let next = below_more c.args.m c.loop-size.size refl refl in
-    (c.loop-size.invariant.0, c.loop-size.invariant.1, omega (arith, c.loop-size.invariant.1, c.requires.2, next, ap (choices_below c.args.m) e))
+    let next = below_more c.args.m c.loop-size.size refl refl in (
+      c.loop-size.invariant.0,
+      c.loop-size.invariant.1,
+      omega (
+        arith,
+        c.loop-size.invariant.1,
+        c.requires.2,
+        next,
+        ap (choices_below c.args.m) e,
+      ),
+    )

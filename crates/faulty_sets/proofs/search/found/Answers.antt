@@ -16,12 +16,24 @@ decide_pair-search-requires c =
 
 pub loop-search-smaller : goal.loop-search-smaller
 loop-search-smaller c =
-    omega (arith, c.decide_pair-search.ensures.result_value.1, place_left _ c.loop-search.search c.loop-search.invariant.1 c.loop-search-test.true)
+    omega (
+      arith,
+      c.decide_pair-search.ensures.result_value.1,
+      place_left _ c.loop-search.search c.loop-search.invariant.1 c.loop-search-test.true,
+    )
 
 pub loop-search-preserved : goal.loop-search-preserved
-loop-search-preserved c = (c.decide_pair-search.ensures.result_value.0 ∙ c.loop-search.invariant.0, c.decide_pair-search.ensures.searching_2)
+loop-search-preserved c = (
+  c.decide_pair-search.ensures.result_value.0
+      ∙ c.loop-search.invariant.0,
+  c.decide_pair-search.ensures.searching_2,
+)
 
 pub returns : goal.returns
 returns c =
-    let none : c.loop-search.search.wanted ≡ 0 = omega (arith, c.loop-search-test.false) in
-    (sym (search_ends _ c.loop-search.search none) ∙ c.loop-search.invariant.0, omega (arith, c.loop-search.invariant.1.room), c.loop-search.invariant.1.sized)
+    let none : c.loop-search.search.wanted ≡ 0 = omega (arith, c.loop-search-test.false) in (
+      sym (search_ends _ c.loop-search.search none)
+          ∙ c.loop-search.invariant.0,
+      omega (arith, c.loop-search.invariant.1.room),
+      c.loop-search.invariant.1.sized,
+    )

@@ -34,8 +34,10 @@ pub loop-above-preserved : goal.loop-above-preserved
 loop-above-preserved c = (
   omega (arith, some c),
   place_further c.loop-above.lower c.loop-above.above c.loop-above.rest c.loop-above-test.true c.loop-above.invariant.1,
-  c.loop-above.invariant.2 ∙ pair_above c.loop-above.lower c.loop-above.above c.loop-above.rest c.loop-above-test.true c.loop-above.invariant.1 no_link_pair,
+  c.loop-above.invariant.2 ∙ pair_above c.loop-above.lower c.loop-above.above c.loop-above.rest c.loop-above-test.true
+      c.loop-above.invariant.1 no_link_pair,
 )
 
 pub returns : goal.returns
-returns c = sym (c.loop-above.invariant.2 ∙ pair_here c.loop-above.lower c.loop-above.above c.loop-above.rest no_link_pair c.loop-above-test.false)
+returns c = sym (c.loop-above.invariant.2
+    ∙ pair_here c.loop-above.lower c.loop-above.above c.loop-above.rest no_link_pair c.loop-above-test.false)

@@ -22,7 +22,8 @@ use Rattle.protocol.specs.Airtime.{own_slots}
 use Rattle.protocol.proofs.Airtime.Laws.{nothing_not_own, verify_not_own, vote_not_own}
 use Rattle.protocol.specs.Links.{announces, holds_verify, full}
 use Rattle.protocol.specs.Record.{link_at, link_count, links, list_tally, correct_count, certified}
-use Rattle.protocol.specs.Steps.{Done, accepts, discards, with_link, with_sent, with_state, with_final, with_announce, with_verify, with_vector}
+use Rattle.protocol.specs.Steps.{Done, accepts, discards, with_link, with_sent}
+use Rattle.protocol.specs.Steps.{with_state, with_final, with_announce, with_verify, with_vector}
 use Rattle.protocol.specs.Steps.{prime_holds, secondary_holds, stops, prime_check, secondary_check, on_announce, on_verify, votes, vote}
 use Rattle.protocol.specs.Steps.{on_correct_final, on_verify_final, on_message}
 use Rattle.protocol.proofs.Steps.Certified.{uncertified_other}
@@ -125,7 +126,8 @@ record Split (b : Base) (i kind : ℕ) (ids : List ℕ) : Type 0 where
   pub dropped : Bool
   pub after : Link
   pub follows : Done
-  pub accepted : accepted_on b.n (member (get_or ids 0 0) (certified b)) (link_at b i) kind ids ≡ unless_discarded dropped (link_at b i) after
+  pub accepted : accepted_on b.n (member (get_or ids 0 0) (certified b)) (link_at b i) kind ids ≡ unless_discarded dropped
+      (link_at b i) after
   pub step : on_message b i (message_in b.n kind ids) ≡ choose dropped (discards b) follows
   pub decides : dropped ≡ false → DecidedAs (with_link b i after) (decision_of (with_link b i after) kind ids) ids follows
 

@@ -10,4 +10,5 @@ returns-then-node-gt-MOST_BROADCASTS c = let v = c.args.node in let S = node_siz
 
 pub returns : goal.returns
 returns c = let v = c.args.node in
-    let S = node_sized v _ c.well_formed.0 in (omega (arith, log_length v, S.frames, c.if-node-gt-MOST_BROADCASTS.false), c.if-node-gt-MOST_BROADCASTS.false)
+    let S = node_sized v _ c.well_formed.0 in
+    (omega (arith, log_length v, S.frames, c.if-node-gt-MOST_BROADCASTS.false), c.if-node-gt-MOST_BROADCASTS.false)

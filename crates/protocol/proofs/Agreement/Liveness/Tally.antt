@@ -28,7 +28,8 @@ module _ (n t : ℕ) (faulty : ℕ → ℕ → ℕ) (id : ℕ → ℕ) (truth : 
       go false true = inr (unfold or in refl)
       go false false = inr (unfold or and in refl)
 
-  pub tally_enough : ((x : ℕ) → x < n → x ≢ y → holds_of b truth x ≡ false → (S x ≡ false) × TouchedBy n faulty S x) → t < tally_of n b truth
+  pub tally_enough : ((x : ℕ) → x < n → x ≢ y → holds_of b truth x ≡ false → (S x ≡ false) × TouchedBy n faulty S x)
+      → t < tally_of n b truth
   unfolding tally_of
   tally_enough reached = omega (
     arith,

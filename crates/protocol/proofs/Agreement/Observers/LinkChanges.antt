@@ -109,7 +109,8 @@ module _ (n : ℕ) (l : Link) (v : List ℕ) (whole : length v ≡ n) where
   correct_here : holds_correct n (with_vector l 3 v) v ≡ true
   correct_here = subst_list (held_correct n (with_vector l 3 v) (unfold with_vector in refl))
     where
-      subst_list : holds_correct n (with_vector l 3 v) (take n (with_vector l 3 v).list) ≡ true → holds_correct n (with_vector l 3 v) v ≡ true
+      subst_list : holds_correct n (with_vector l 3 v) (take n (with_vector l 3 v).list) ≡ true
+          → holds_correct n (with_vector l 3 v) v ≡ true
       subst_list h = ap (holds_correct n (with_vector l 3 v)) (sym (stored_list 3)) ∙ h
 
   vote_here : holds_verify_final n (with_vector l 4 v) v ≡ true

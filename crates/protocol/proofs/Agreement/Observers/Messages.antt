@@ -170,11 +170,13 @@ module _ (me : ℕ) (b : Base) (inside : me < b.n) (R : Runs b) (S : Sized b) (q
         → ArrivalCall me b x (correct_final v) (secondary_check (with_sent holding_correct) v (verify_final v ∷ []))
     voting free e =
         let T : Takes b i (correct_final v) (with_sent holding_correct) (verify_final v ∷ []) = takes_and_votes v free e in
-        secondary_call me b inside R S quiescent x x_in ne (correct_final v) w holding_correct (with_sent holding_correct) (correct_stored free)
+        secondary_call me b inside R S quiescent x x_in ne (correct_final v) w holding_correct (with_sent holding_correct)
+        (correct_stored free)
         (takes_rest T).setting (takes_runs R S below T w) (sent_closing me holding_correct) (verify_final v ∷ []) (vote_said e) v refl tt
         (unfold view with_sent final_list in refl)
 
-    not_voting : link.held ≢ 3 → votes holding_correct v ≡ false → ArrivalCall me b x (correct_final v) (secondary_check holding_correct v [])
+    not_voting : link.held ≢ 3 → votes holding_correct v ≡ false
+        → ArrivalCall me b x (correct_final v) (secondary_check holding_correct v [])
     not_voting free e =
         let T : Takes b i (correct_final v) holding_correct [] = takes_correct v free e in
         secondary_call me b inside R S quiescent x x_in ne (correct_final v) w holding_correct holding_correct (correct_stored free)

@@ -68,7 +68,8 @@ module _ (me : ℕ) (b : Base) (inside : me < b.n) (e : record_refusal b ≡ 0) 
 
       once : (x : ℕ) → x < b.n → distinct ((view me b).verifies x) ≡ true
       once x l = unfold view in elim (ℕ_discrete x me) [
-        | yes q ↦ ap (λ z. distinct (verifies_of (link_for me b z))) q ∙ ap (λ (k : Link). distinct (verifies_of k)) (link_own me b) ∙ nothing
+        | yes q ↦ ap (λ z. distinct (verifies_of (link_for me b z))) q ∙ ap (λ (k : Link). distinct (verifies_of k)) (link_own me b)
+            ∙ nothing
         | no q ↦ ap (λ (k : Link). distinct (verifies_of k)) (link_other me b x q)
             ∙ (link_sound_lem b e (place_of me x) (place_inside me x b.n inside l q)).apart
       ]

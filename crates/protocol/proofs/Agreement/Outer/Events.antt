@@ -77,7 +77,8 @@ module _ (n t : ℕ) (faulty : List Pair) (id : ℕ → ℕ) (truth : List ℕ) 
 
       arrival_moved : (e : Event) → at e ≡ suc y → call W e ≡ arrival (W.base (suc y)) (link_to (suc y) (suc x)) burst room
           → Valid n (message_of burst)
-          → (table faulty x y ≡ 0 → Said (message_of burst) (N.log x)) → HandedOver N x y (message_of burst) (carried_by W e) → GroupMoved W e
+          → (table faulty x y ≡ 0 → Said (message_of burst) (N.log x)) → HandedOver N x y (message_of burst) (carried_by W e)
+          → GroupMoved W e
       arrival_moved e here is w source newly = record {
         follows = record {
           group = group_after N y (arrival_step (N.base y) (place_of y x) (message_of burst)) (carried_by W e);

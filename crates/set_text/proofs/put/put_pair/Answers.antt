@@ -23,6 +23,12 @@ returns c = let a = c.args in
     let few = few_field number_digits faulty_word a.pair.lower (omega arith) (below_byte a.pair.lower (search rules)) in
     let most = few_field number_digits (space ∷ []) a.pair.higher (omega arith) (below_byte a.pair.higher (search rules)) in
     let A = put_fits (length t) (omega (arith, few, c.requires)) (c.put_field-first.ensures.value, c.put_field-first.ensures.out_after) in
-    let B = put_next (length u) u A (omega (arith, few, most, c.requires, A.past)) (c.put_field-second.ensures.value, c.put_field-second.ensures.out_after) in
+    let B = put_next (length u) u A (omega (arith, few, most, c.requires, A.past)) (
+      c.put_field-second.ensures.value,
+      c.put_field-second.ensures.out_after,
+    ) in
     let far = step u A B in
-    let P = put_next (length feed) feed B (omega (arith, few, most, far, c.requires, A.past)) (c.put_text.ensures.value, c.put_text.ensures.out_after) in record { put = P; upper_bound = omega (arith, A.past, few, most, far, step feed B P) }
+    let P = put_next (length feed) feed B (omega (arith, few, most, far, c.requires, A.past)) (
+      c.put_text.ensures.value,
+      c.put_text.ensures.out_after,
+    ) in record { put = P; upper_bound = omega (arith, A.past, few, most, far, step feed B P) }

@@ -28,4 +28,9 @@ pub shape_of-out : goal.shape_of-out
 shape_of-out c = c.loop-i.invariant.2
 
 pub returns : goal.returns
-returns c = let e : c.loop-i.i ≡ c.args.count = omega arith in record { put = put_as (ap (λ (k : ℕ). pair_lines (take k c.args.pairs)) e) c.loop-i.invariant.3; upper_bound = omega (arith, c.loop-i.invariant.1, c.loop-i.invariant.0, c.requires) }
+returns c = let e : c.loop-i.i ≡ c.args.count = omega arith in
+    record {
+      put = put_as (ap (λ (k : ℕ). pair_lines (take k c.args.pairs)) e) c.loop-i.invariant.3;
+      upper_bound =
+          omega (arith, c.loop-i.invariant.1, c.loop-i.invariant.0, c.requires);
+    }

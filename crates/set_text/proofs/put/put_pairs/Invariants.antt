@@ -8,7 +8,8 @@ use Rattle.set_text.proofs.put.put_pairs.Given as goal
 
 abbrev pub invariant-loop-i : goal.invariant-loop-i
 invariant-loop-i l =
-    (l.i ≤ l.count) × (l.end ≤ l.at + pair_room * l.i) × (length l.out ≡ length l.initial.out) × Put l.initial.out l.at (pair_lines (take l.i l.pairs)) l.out l.end
+    (l.i ≤ l.count) × (l.end ≤ l.at + pair_room * l.i) × (length l.out ≡ length l.initial.out) × Put l.initial.out l.at (pair_lines
+    (take l.i l.pairs)) l.out l.end
 
 abbrev pub decreases-loop-i : goal.decreases-loop-i
 decreases-loop-i l = l.count - l.i

@@ -19,7 +19,9 @@ pub loop-number-init : goal.loop-number-init
 loop-number-init c = (omega arith, omega arith, refl, put_as (sym lines_none) (put_none _ _))
 
 pub put_set-at-requires : goal.put_set-at-requires
-put_set-at-requires c = let room : (number : ℕ) → number < c.args.count → set_room * number + set_room ≤ length c.args.out.now = λ number less. let few : c.args.count ≤ set_count small_bases small_faulty = omega (arith, c.requires.1, sets_few c.args.n c.args.t c.requires.0) in room_left number c.args.count _ less few c.requires.2 in
+put_set-at-requires c = let room : (number : ℕ) → number < c.args.count
+    → set_room * number + set_room ≤ length c.args.out.now = λ number less. let few : c.args.count ≤ set_count small_bases small_faulty =
+    omega (arith, c.requires.1, sets_few c.args.n c.args.t c.requires.0) in room_left number c.args.count _ less few c.requires.2 in
     omega (arith, c.loop-number.invariant.1, c.loop-number.invariant.2, room c.loop-number.number c.loop-number-test.true)
 
 pub loop-number-preserved : goal.loop-number-preserved
@@ -40,5 +42,10 @@ shape_of-out c = c.loop-number.invariant.2
 
 pub returns : goal.returns
 returns c =
-    let all = take_all c.loop-number.number (faulty_sets c.args.n c.args.t) (omega (arith, c.loop-number.invariant.0, c.loop-number-test.false, c.requires.1)) in
+    let all = take_all c.loop-number.number (faulty_sets c.args.n c.args.t) (omega (
+      arith,
+      c.loop-number.invariant.0,
+      c.loop-number-test.false,
+      c.requires.1,
+    )) in
     put_as (ap (lines_from 0) all) c.loop-number.invariant.3

@@ -9,7 +9,8 @@ use Rattle.set_text.proofs.put.put_sets.Given as goal
 
 abbrev pub invariant-loop-number : goal.invariant-loop-number
 invariant-loop-number l =
-    (l.number ≤ l.count) × (l.at ≤ set_room * l.number) × (length l.out ≡ length l.initial.out) × Put l.initial.out 0 (lines_from 0 (take l.number (faulty_sets l.n l.t))) l.out l.at
+    (l.number ≤ l.count) × (l.at ≤ set_room * l.number) × (length l.out ≡ length l.initial.out) × Put l.initial.out 0 (lines_from 0
+    (take l.number (faulty_sets l.n l.t))) l.out l.at
 
 abbrev pub decreases-loop-number : goal.decreases-loop-number
 decreases-loop-number l = l.count - l.number

@@ -22,14 +22,20 @@ pub returns-then-more-gt-MOST_NUMBER : goal.returns-then-more-gt-MOST_NUMBER
 returns-then-more-gt-MOST_NUMBER c =
     let loop-test = c.loop-i-test in
     let value = c.digit_value.ensures in
-    sym (c.loop-i.invariant.1 ∙ digits_over _ _ _ _ loop-test.true (digit c.if-b-lt48.false c.if-b-gt57.false) (omega (arith, value)) c.if-more-gt-MOST_NUMBER.true)
+    sym (c.loop-i.invariant.1 ∙ digits_over _ _ _ _ loop-test.true (digit c.if-b-lt48.false c.if-b-gt57.false) (omega (
+      arith,
+      value,
+    )) c.if-more-gt-MOST_NUMBER.true)
 
 pub loop-i-preserved : goal.loop-i-preserved
 loop-i-preserved c =
     let loop-test = c.loop-i-test in
     let value = c.digit_value.ensures in (
       c.if-more-gt-MOST_NUMBER.false,
-      c.loop-i.invariant.1 ∙ digits_more _ _ _ _ loop-test.true (digit c.if-b-lt48.false c.if-b-gt57.false) (omega (arith, value)) c.if-more-gt-MOST_NUMBER.false,
+      c.loop-i.invariant.1 ∙ digits_more _ _ _ _ loop-test.true (digit c.if-b-lt48.false c.if-b-gt57.false) (omega (
+        arith,
+        value,
+      )) c.if-more-gt-MOST_NUMBER.false,
     )
 
 pub returns : goal.returns
