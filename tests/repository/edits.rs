@@ -26,6 +26,13 @@ const NAMES_ALONE: &str = "only because a proof file names what the edit took aw
 const MISFITS: [&str; 6] =
     ["has no field", "has no `", "is not in scope", "is applied to an argument", "give that argument by adding", "was not determined"];
 
+/// What a step of a proof says that finds nothing to rewrite in the goal. Where every step that is refused says so, no goal was left open,
+/// and the edit shows nothing either. The log has the first step alone, so one that says so has to be looked at.
+const NO_PLACE: [&str; 2] = ["no occurrence of", "no equation of the list has an instance"];
+
+/// Looked at: the steps behind the first leave goals open.
+const GOALS_BEHIND: [(&str, &str); 1] = [("limits", "one_base")];
+
 /// What stands on a declaration that is refused is refused with it.
 const FOLLOWS: [&str; 2] = ["was not admitted", "which was rejected"];
 
@@ -80,7 +87,9 @@ pub fn check_tried() -> Result<String, Vec<String>> {
     let there = there();
     let untried = there.iter().filter(|edit| !said.contains_key(edit)).count();
     let said = there.iter().filter_map(|edit| Some((edit, said.get(edit)?)));
-    let mut wrong: Vec<String> = said.filter_map(|((krate, name), what)| Some(format!("{name} of {krate} {}", misfit(what)?))).collect();
+    let wrong_of = |edit, what| misfit(what).or_else(|| placeless(edit, what));
+    let mut wrong: Vec<String> =
+        said.filter_map(|(edit, what)| Some(format!("{} of {} {}", edit.1, edit.0, wrong_of(edit, what)?))).collect();
     if untried > 0 {
         wrong.push(format!("{untried} edits have not been tried here; tests/all lets rt ci try them"));
     }
@@ -108,9 +117,15 @@ fn misfit(what: &str) -> Option<String> {
     (!shows).then(|| format!("is refused by a misfit{point}"))
 }
 
+/// The first step finds no place, and nobody has looked at those behind it.
+fn placeless((krate, name): &Edit, what: &str) -> Option<String> {
+    let found = !NO_PLACE.iter().any(|words| what.contains(words)) || GOALS_BEHIND.contains(&(krate, name));
+    (!found).then(|| format!("is refused first by a step that finds no place: {what}"))
+}
+
 #[cfg(test)]
 mod tests {
-    use super::{misfit, tried};
+    use super::{misfit, placeless, tried};
 
     fn of(what: &str) -> Option<String> {
         let line = format!("rt: must-fail frame/kind_five.edit: {what}");
@@ -146,5 +161,14 @@ mod tests {
             Some("is not refused: NOT REFUSED: the crate is still proved".to_string())
         );
         assert_eq!(tried("rt: frame proved"), None);
+    }
+
+    #[test]
+    fn a_step_without_a_place_has_to_be_looked_at() {
+        let of = |krate: &str, name: &str, what| placeless(&(krate.to_string(), name.to_string()), what).is_none();
+        let step =
+            "refused, as it must be: ./proofs/one/Answers.antt:9:5: error: `returns`: `rw`: no occurrence of the path's left endpoint";
+        assert!(!of("frame", "kind_five", step) && of("limits", "one_base", step));
+        assert!(of("frame", "kind_five", "refused, as it must be: ./proofs/one/Answers.antt:9:5: error: `returns`: expected type `a`"));
     }
 }

@@ -35,8 +35,7 @@ BY_HAND = {
         ("src/lib.rt", "if !heard_by(node, a, i + 1) {", "if !heard_by(node, a, i + 1) { total += 0; } else {"),
     ],
     "event_forms/carry_of_number_zero": [
-        ("src/lib.rt", "    if k < 1 {", "    let given = k; let k: u32 = 1; if k < 1 {"),
-        ("src/lib.rt", "            number: k,", "            number: given,"),
+        ("src/lib.rt", "    if k < 1 {", "    if k < 1 { return Line::Carry { from: 1, to: 2, number: k, next };"),
     ],
     "bursts/any_distance": [
         ("src/lib.rt", "    if back != size {", "    let size = back; if back != size {"),
