@@ -6,14 +6,17 @@
 mod reason;
 mod trailer;
 
-use cause_text::meanings::say_meaning;
+use crate::reason::discarded_for;
+use crate::trailer::Trailer;
+use cause_text::meanings::meaning;
 use frame::kind::CORRECT_FINAL;
 use held::HELD_VERIFY_FINAL;
-use message_text::say;
+use message_text::message::{Spoken, first_of};
 use numbering::link_at;
-use output::with_numbers;
 use protocol::{Base, Link};
 use readings::read_numbers;
+use std::fmt;
+use std::io;
 
 // On which link a burst arrives, from which base or as if from it.
 #[derive(Clone, Copy)]
@@ -23,76 +26,37 @@ pub struct Arrival {
     pub forged: bool,
 }
 
-fn as_if(forged: bool) {
-    if forged {
-        output::text(b" as if");
+impl fmt::Display for Arrival {
+    fn fmt<W: fmt::Write>(&self, f: &mut fmt::Formatter<W>) -> fmt::Result {
+        if self.forged {
+            write!(f, "as if ")?;
+        }
+        write!(f, "from base {} on link {}", self.from, self.link)
     }
 }
 
-fn on_link(arrival: Arrival, words: &[u8]) {
-    as_if(arrival.forged);
-    with_numbers(
-        b" from base # on link #",
-        [arrival.from as usize, arrival.link, 0],
-    );
-    output::text(words);
-}
-
-fn hears(b: u8, n: u8, burst: &[u8]) {
-    say::base(b, b" hears ");
-    say::burst_message(n, burst);
-}
-
-// The number, and what it means.
-fn refusal(number: u8, burst: &[u8]) {
-    with_numbers(b"#, ", [number as usize, 0, 0]);
-    say_meaning(number as usize);
-    trailer::say_values(number, burst);
-    output::text(b"\n");
-}
-
-pub fn say_refused(b: u8, arrival: Arrival, burst: &[u8], number: u8) {
-    say::base(b, b" hears ");
-    say::byte_count(burst.len());
-    on_link(arrival, b": refused by ");
-    refusal(number, burst);
-}
-
-// The message, and why it is discarded.
-fn discards(b: u8, base: Base, held: Link, arrival: Arrival, burst: &[u8]) {
-    let taken = read_numbers(base.n as usize, burst);
-    let ids = taken.ids;
-    hears(b, base.n, burst);
-    on_link(arrival, b": discarded, ");
-    reason::say_discarded(base, held, taken.kind, ids[0]);
+pub fn say_refused(out: &impl Print, b: u8, arrival: Arrival, burst: &[u8], refusal: u8) -> io::Result<()> {
+    let bytes = if burst.len() == 1 { "byte" } else { "bytes" };
+    print!(out; "  base {b} hears {} {bytes} {arrival}: ", burst.len())?;
+    println!(out; "refused by {refusal}, {}{}", meaning(refusal), Trailer { refusal, burst })
 }
 
 // A Correct-Final takes the place of the Verify-Final that its link held.
-fn replaces(n: u8, held: Link, kind: u8) {
-    if held.held != HELD_VERIFY_FINAL {
-        return;
-    }
-    if kind != CORRECT_FINAL {
-        return;
-    }
-    output::text(b", in place of the link's Verify-Final of");
-    let list = held.list;
-    say::each_identifier(list, n as usize);
-}
-
-fn accepts(b: u8, n: u8, held: Link, arrival: Arrival, burst: &[u8]) {
-    hears(b, n, burst);
-    on_link(arrival, b": accepted");
-    replaces(n, held, read_numbers(n as usize, burst).kind);
-    output::text(b"\n");
+fn replaces(held: Link, kind: u8) -> bool {
+    held.held == HELD_VERIFY_FINAL && kind == CORRECT_FINAL
 }
 
 // The message that was not refused.
-pub fn say_heard(b: u8, base: Base, arrival: Arrival, accepted: bool, burst: &[u8]) {
+pub fn say_heard(out: &impl Print, b: u8, base: Base, arrival: Arrival, accepted: bool, burst: &[u8]) -> io::Result<()> {
+    let n = base.n;
     let held = link_at(base, arrival.link);
-    if accepted {
-        accepts(b, base.n, held, arrival, burst);
-    } else {
-        discards(b, base, held, arrival, burst);
+    let taken = read_numbers(n as usize, burst);
+    print!(out; "  base {b} hears {} {arrival}: ", Spoken { n, burst })?;
+    if !accepted {
+        return println!(out; "discarded, {}", discarded_for(base, held, taken.kind, taken.ids[0]));
     }
+    if replaces(held, taken.kind) {
+        return println!(out; "accepted, in place of the link's Verify-Final of{}", first_of(&held.list, n as usize));
+    }
+    println!(out; "accepted")
 }

@@ -3,72 +3,39 @@ use certification::certifies;
 use frame::kind::{ANNOUNCE, CORRECT_FINAL, VERIFY};
 use held::has_announce;
 use held_lists::holds_verify;
-use line_fields::line::row;
-use output::text;
 use protocol::{Base, Link, PRIME};
 
-// A row each.
-const REASONS: [u8; 215] = *b"
-the base has stopped
-the link has an Announce
-the identifier is its own
-the identifier is certified
-the link holds that Verify
-the link holds a Correct-Final
-the link holds a vector message
-the link's list is full
-";
+const FULL: &str = "the link's list is full";
 
-const STOPPED: usize = 1;
-
-const ANNOUNCED: usize = 2;
-
-const OWN: usize = 3;
-
-const CERTIFIED: usize = 4;
-
-const VERIFIED: usize = 5;
-
-const HOLDS_CORRECT_FINAL: usize = 6;
-
-const HOLDS_VECTOR: usize = 7;
-
-const FULL: usize = 8;
-
-fn of_announce(base: Base, link: Link, g: u32) -> usize {
+fn of_announce(base: Base, link: Link, g: u32) -> &'static str {
     if has_announce(link) {
-        return ANNOUNCED;
+        return "the link has an Announce";
     }
     if g == base.own {
-        return OWN;
+        return "the identifier is its own";
     }
     if certifies(base, g) {
-        return CERTIFIED;
+        return "the identifier is certified";
     }
     FULL
 }
 
-fn of_verify(link: Link, g: u32) -> usize {
+fn of_verify(link: Link, g: u32) -> &'static str {
     if holds_verify(link, g) {
-        return VERIFIED;
+        return "the link holds that Verify";
     }
     FULL
 }
 
 // By what the link holds, for a message of that kind with g as its first identifier.
-fn of_message(base: Base, held: Link, kind: u8, g: u32) -> usize {
+pub(crate) fn discarded_for(base: Base, held: Link, kind: u8, g: u32) -> &'static str {
     if PRIME <= base.state {
-        return STOPPED;
+        return "the base has stopped";
     }
     match kind {
         ANNOUNCE => of_announce(base, held, g),
         VERIFY => of_verify(held, g),
-        CORRECT_FINAL => HOLDS_CORRECT_FINAL,
-        _ => HOLDS_VECTOR,
+        CORRECT_FINAL => "the link holds a Correct-Final",
+        _ => "the link holds a vector message",
     }
-}
-
-pub(crate) fn say_discarded(base: Base, held: Link, kind: u8, g: u32) {
-    text(row(&REASONS, of_message(base, held, kind, g)));
-    text(b"\n");
 }

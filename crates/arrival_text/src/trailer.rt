@@ -1,47 +1,33 @@
 // What the trailer of a burst that is refused says, where its number is about the trailer.
+use limits::frame_bytes;
 use limits::refusal::{BACK_DISTANCE, COUNT, KIND};
-use limits::{TRAILER_BYTES, frame_bytes};
-use output::with_numbers;
+use std::fmt;
 
-fn kind_alone(kind: u8) {
-    with_numbers(b" (kind #)", [kind as usize, 0, 0]);
+#[derive(Clone, Copy)]
+pub(crate) struct Trailer<'a> {
+    pub(crate) refusal: u8,
+    pub(crate) burst: &'a [u8],
 }
 
-fn kind_and_count(kind: u8, count: u8) {
-    with_numbers(b" (kind #, count #)", [kind as usize, count as usize, 0]);
-}
-
-// What it should be; or the burst's length, which it exceeds.
-fn right_distance(back: usize, right: usize, length: usize) {
-    if back == right {
-        return with_numbers(b", and the burst has # bytes)", [length, 0, 0]);
-    }
-    with_numbers(b", where # belongs)", [right, 0, 0]);
-}
-
-fn distance_alone(back: usize, count: u8, length: usize) {
-    with_numbers(b" (back distance #", [back, 0, 0]);
-    right_distance(back, frame_bytes(count), length);
-}
-
-fn two_bytes(high: u8, low: u8) -> usize {
-    (high as usize) * 256 + (low as usize)
-}
-
-fn values(refusal: u8, kind: u8, count: u8, back: usize, length: usize) {
-    match refusal {
-        KIND => kind_alone(kind),
-        COUNT => kind_and_count(kind, count),
-        BACK_DISTANCE => distance_alone(back, count, length),
-        _ => {}
+impl fmt::Display for Trailer<'_> {
+    fn fmt<W: fmt::Write>(&self, f: &mut fmt::Formatter<W>) -> fmt::Result {
+        let [.., kind, count, high, low] = self.burst else {
+            return Ok(());
+        };
+        match self.refusal {
+            KIND => write!(f, " (kind {kind})"),
+            COUNT => write!(f, " (kind {kind}, count {count})"),
+            BACK_DISTANCE => distance(f, u16::from_be_bytes([*high, *low]), *count, self.burst.len()),
+            _ => Ok(()),
+        }
     }
 }
 
-pub(crate) fn say_values(refusal: u8, burst: &[u8]) {
-    if burst.len() < TRAILER_BYTES {
-        return;
+// And what it should be; or the burst's length, which it exceeds.
+fn distance<W: fmt::Write>(f: &mut fmt::Formatter<W>, back: u16, count: u8, length: usize) -> fmt::Result {
+    let right = frame_bytes(count);
+    if back as usize == right {
+        return write!(f, " (back distance {back}, and the burst has {length} bytes)");
     }
-    let place = burst.len() - TRAILER_BYTES;
-    let back = two_bytes(burst[place + 2], burst[place + 3]);
-    values(refusal, burst[place], burst[place + 1], back, burst.len());
+    write!(f, " (back distance {back}, where {right} belongs)")
 }

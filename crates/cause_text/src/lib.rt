@@ -1,9 +1,8 @@
-// A cause for which a line of a schedule is refused, told on standard output in words. The sentences are a table, so whoever finds a cause
-// answers with numbers.
+// The words in which it is told why a line of a schedule is refused: what a number means, and the line, a field or a byte of it as it is
+// shown.
 
 #![tactic(auto)]
 
-pub mod cause;
 pub mod meanings;
-pub mod sentences;
-pub mod tell;
+pub mod shown;
+mod visible;

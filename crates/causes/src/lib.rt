@@ -3,19 +3,20 @@
 
 #![tactic(auto)]
 
+mod cause;
 mod numbers;
 
+use crate::cause::Cause;
 use crate::numbers::number_cause;
-use cause_text::cause::{Cause, counted, first_cause, said};
-use cause_text::sentences;
-use cause_text::sentences::{ENDS_BEFORE, FIELD_COUNT, OTHER_BASE};
-use cause_text::tell::tell;
-use field_causes::{field_cause, hex_hint, line_of_base};
+use cause_text::meanings::meaning;
+use cause_text::shown::WholeLine;
+use field_causes::{FieldCause, field_cause, hex_hint, line_of_base};
 use form_causes::{belongs, byte_cause, space_cause, word_cause};
 use limits::LONGEST_SCHEDULE;
 use limits::refusal::FORM;
-use line_fields::forms::line_kind;
+use line_fields::forms::Form;
 use line_fields::line::line_at;
+use std::io;
 
 // A line that is refused, and what the lines before it have told.
 #[derive(Clone, Copy)]
@@ -34,53 +35,65 @@ pub struct RefusedLine {
 }
 
 // The first cause in the bytes, the spaces, the word and the fields of a line that ends.
-fn ended_line(kind: usize, s: &[u8], line: &[u8], refused: RefusedLine) -> Cause {
-    let number = refused.number;
-    let n = refused.n;
-    let word = word_cause(kind, line, number, n, refused.faulty);
-    let behind = first_cause(word, field_cause(kind, s, line, number, n));
-    first_cause(
-        byte_cause(s, line, refused.at),
-        first_cause(space_cause(kind, line), behind),
-    )
+fn ended_line<'a>(s: &[u8], line: &'a [u8], refused: &RefusedLine) -> Option<Cause<'a>> {
+    let form = Form::of_line(line);
+    let bytes = byte_cause(s, line, refused.at).or(space_cause(form, line));
+    let word = word_cause(form, line, refused.number, refused.n, refused.faulty);
+    let found = bytes.or(word).map(Cause::Form);
+    match form {
+        Some(form) => found.or(field_cause(form, s, line, refused.number, refused.n).map(
+            Cause::Field,
+        )),
+        None => found,
+    }
 }
 
 // Number 13: what breaks a line's form.
-fn form_cause(kind: usize, s: &[u8], line: &[u8], refused: RefusedLine) -> Cause {
+fn form_cause<'a>(s: &[u8], line: &'a [u8], refused: &RefusedLine) -> Option<Cause<'a>> {
     if LONGEST_SCHEDULE < s.len() {
-        return said(sentences::TOO_LONG);
+        return Some(Cause::TooLong);
     }
     if s.len() <= refused.at {
-        return counted(sentences::ENDS_BEFORE, refused.number);
+        return Some(Cause::EndsBefore(refused.number));
     }
-    ended_line(kind, s, line, refused)
+    ended_line(s, line, refused)
 }
 
-fn cause_of(kind: usize, s: &[u8], line: &[u8], refused: RefusedLine) -> Cause {
+fn cause_of<'a>(s: &[u8], line: &'a [u8], refused: &RefusedLine) -> Option<Cause<'a>> {
     if refused.refusal == FORM {
-        return form_cause(kind, s, line, refused);
+        return form_cause(s, line, refused);
     }
-    number_cause(s, line, refused)
+    Some(Cause::Number(number_cause(s, line, refused)))
 }
 
 // What is told behind a cause.
-fn further(sentence: usize, kind: usize, line: &[u8], number: usize, n: usize) -> Cause {
-    match sentence {
-        ENDS_BEFORE => belongs(number),
-        FIELD_COUNT => hex_hint(kind, line, n),
-        OTHER_BASE => line_of_base(line, number),
-        _ => said(sentences::NONE),
+fn further<'a>(cause: Cause<'a>, line: &'a [u8], refused: &RefusedLine) -> Option<Cause<'a>> {
+    match cause {
+        Cause::EndsBefore(number) => Some(Cause::Form(belongs(number))),
+        Cause::Field(FieldCause::FieldCount(form, _)) => hex_hint(form, line, refused.n).map(
+            Cause::Field,
+        ),
+        Cause::Field(FieldCause::OtherBase(_, _)) => line_of_base(line, refused.number).map(
+            Cause::Field,
+        ),
+        _ => None,
     }
 }
 
-pub fn explain(s: &[u8], refused: RefusedLine) {
+pub fn explain(out: &impl Print, s: &[u8], refused: &RefusedLine) -> io::Result<()> {
     let line = line_at(s, refused.at);
-    let kind = line_kind(line);
-    tell(counted(sentences::HEAD, refused.number), kind, line);
-    let refusal = refused.refusal as usize;
-    tell(counted(sentences::NUMBER, refusal), kind, line);
-    let cause = cause_of(kind, s, line, refused);
-    tell(cause, kind, line);
-    let more = further(cause.sentence, kind, line, refused.number, refused.n);
-    tell(more, kind, line);
+    println!(out; "line {}: {}", refused.number, WholeLine(line))?;
+    println!(out;
+        "  refused by {}, {}",
+        refused.refusal,
+        meaning(refused.refusal)
+    )?;
+    let Some(cause) = cause_of(s, line, refused) else {
+        return Ok(());
+    };
+    println!(out; "  {cause}")?;
+    match further(cause, line, refused) {
+        Some(more) => println!(out; "  {more}"),
+        None => Ok(()),
+    }
 }

@@ -7,10 +7,10 @@ use correct_finals::correct_count;
 use counted_links::links_in;
 use frame::kind::CORRECT_FINAL;
 use limits::MOST_BASES;
-use message_text::say;
+use message_text::message::first_of;
 use numbering::link_at;
-use output::with_numbers;
 use protocol::{Base, PRIME, SECONDARY};
+use std::io;
 use sum_of_tallies::tally_sum;
 use suspect_text::missing::missing_verifies;
 use suspect_text::pairs::suspect_pairs;
@@ -21,120 +21,69 @@ use vectors::list_tally;
 // n² - 2t
 fn sum_asked(n: u8, t: u8) -> usize {
     let bases = n as usize;
-    if MOST_BASES < bases {
-        return 0;
-    }
-    let square = bases * bases;
-    let less = 2 * (t as usize);
-    if square < less {
-        return 0;
-    }
-    square - less
+    (bases * bases).saturating_sub(2 * t as usize)
 }
 
 // What the check made of the base.
-fn verdict(state: u8) {
+fn verdict(state: u8) -> &'static str {
     match state {
-        PRIME => output::text(b"; prime\n"),
-        SECONDARY => output::text(b"; secondary\n"),
-        _ => output::text(b"; runs on\n"),
-    }
-}
-
-// Words, and `310 has 3`
-fn say_tally(base: Base, g: u32, words: &[u8]) {
-    output::text(words);
-    with_numbers(b"# has #", [g as usize, tally(base, g), 0]);
-}
-
-fn link_tallies(base: Base) {
-    let k = links_in(base.n);
-    let mut i: usize = 0;
-    while i < k {
-        i += 1;
-        say_tally(base, link_at(base, i).announce, b", ");
+        PRIME => "prime",
+        SECONDARY => "secondary",
+        _ => "runs on",
     }
 }
 
 // The tallies behind a sum, where every link has announced an identifier.
-fn tallies(base: Base) {
-    say_tally(base, base.own, b"  tallies: ");
-    link_tallies(base);
-    output::text(b"\n");
-}
-
-// Whether every link has announced an identifier, and the sum is short all the same.
-fn is_short(certified: usize, sum: usize, n: u8, t: u8) -> bool {
-    if certified != n as usize {
-        return false;
+fn tallies(out: &impl Print, base: Base) -> io::Result<()> {
+    print!(out; "  tallies: {} has {}", base.own, tally(base, base.own))?;
+    for i in 1..=links_in(base.n) {
+        let g = link_at(base, i).announce;
+        print!(out; ", {g} has {}", tally(base, g))?;
     }
-    sum < sum_asked(n, t)
+    println!(out)
 }
 
-fn certified_figures(b: u8, n: u8, certified: usize) {
-    with_numbers(
-        b"  base #, prime check: certified #, # needed",
-        [b as usize, certified, n as usize],
-    );
-}
-
-fn sum_figures(n: u8, t: u8, sum: usize, suspected: usize) {
-    with_numbers(
-        b"; sum #, # needed; suspects #",
-        [sum, sum_asked(n, t), suspected],
-    );
-    with_numbers(b", at most #", [t as usize, 0, 0]);
-}
-
-// What is behind the figures.
-fn reasons(b: u8, base: Base, short: bool, suspected: bool) {
+// What is behind the figures, where the sum is short or there are suspect pairs.
+fn reasons(out: &impl Print, b: u8, base: Base, short: bool, suspected: bool) -> io::Result<()> {
     if short {
-        tallies(base);
+        tallies(out, base)?;
     }
     if suspected {
-        return suspect_pairs(b, base);
+        return suspect_pairs(out, b, base);
     }
     if short {
-        missing_verifies(b, base);
+        return missing_verifies(out, b, base);
     }
+    Ok(())
 }
 
-pub fn prime(b: u8, base: Base) {
+pub fn prime(out: &impl Print, b: u8, base: Base) -> io::Result<()> {
     let suspected = suspect_count(base);
     let certified = certified_count(base);
     let sum = tally_sum(base);
-    certified_figures(b, base.n, certified);
-    sum_figures(base.n, base.t, sum, suspected);
-    verdict(base.state);
-    let short = is_short(certified, sum, base.n, base.t);
-    reasons(b, base, short, 0 < suspected);
+    let Base { n, t, state, .. } = base;
+    let asked = sum_asked(n, t);
+    print!(out; "  base {b}, prime check: certified {certified}, {n} needed; sum {sum}, {asked} needed; ")?;
+    println!(out; "suspects {suspected}, at most {t}; {}", verdict(state))?;
+    // Every link has announced an identifier, and the sum is short all the same.
+    let short = certified == n as usize && sum < asked;
+    reasons(out, b, base, short, 0 < suspected)
 }
 
 // Of a base that had sent its Verify-Final: the second Correct-Final of a list would have it send one. It sent that for another list, as a
 // base votes for a list with the second Correct-Final of it.
-pub fn sent_before(b: u8, base: Base, kind: u8, v: [u32; MOST_BASES]) {
-    if kind != CORRECT_FINAL {
-        return;
+pub fn sent_before(out: &impl Print, b: u8, base: Base, kind: u8, v: [u32; MOST_BASES]) -> io::Result<()> {
+    if kind == CORRECT_FINAL && correct_count(base, v) == 2 {
+        return println!(out; "  base {b} sends no Verify-Final: it has sent one before, of another list");
     }
-    if correct_count(base, v) == 2 {
-        say::base(
-            b,
-            b" sends no Verify-Final: it has sent one before, of another list\n",
-        );
-    }
-}
-
-fn list_figures(tally: usize, t: u8, correct: usize) {
-    with_numbers(
-        b": tally #, # needed; Correct-Finals #, 2 needed",
-        [tally, t as usize + 1, correct],
-    );
+    Ok(())
 }
 
 // On the first n identifiers of v.
-pub fn secondary(b: u8, base: Base, v: [u32; MOST_BASES]) {
-    say::base(b, b", secondary check of");
-    say::each_identifier(v, base.n as usize);
-    list_figures(list_tally(base, v), base.t, correct_count(base, v));
-    verdict(base.state);
+pub fn secondary(out: &impl Print, b: u8, base: Base, v: [u32; MOST_BASES]) -> io::Result<()> {
+    let Base { n, t, state, .. } = base;
+    let (tally, needed, correct) = (list_tally(base, v), t as usize + 1, correct_count(base, v));
+    let list = first_of(&v, n as usize);
+    print!(out; "  base {b}, secondary check of{list}: tally {tally}, {needed} needed; ")?;
+    println!(out; "Correct-Finals {correct}, 2 needed; {}", verdict(state))
 }

@@ -1,27 +1,15 @@
 // Lines that say the same.
-use line_fields::forms::line_kind;
-use line_fields::line::{fields_from, is_same, line_at};
-use parts::plus;
+use line_fields::forms::Form;
+use line_fields::line::fields_from;
 
 // Whether two lines have one word, and are the same from a field on.
 fn alike(one: &[u8], other: &[u8], from: usize) -> bool {
-    if line_kind(one) != line_kind(other) {
-        return false;
-    }
-    is_same(fields_from(one, from), fields_from(other, from))
+    Form::of_line(one) == Form::of_line(other) && fields_from(one, from) == fields_from(other, from)
 }
 
-// The number of the first line of a schedule that is like that one, from a field on.
+// The number of the first line of a schedule that is like that one, from a field on; 0 where there is none.
 pub fn first_alike(s: &[u8], line: &[u8], from: usize) -> usize {
-    let mut next: usize = 0;
-    let mut k: usize = 0;
-    while k < s.len() {
-        k += 1;
-        let one = line_at(s, next);
-        if alike(one, line, from) {
-            return k;
-        }
-        next = plus(plus(next, one.len()), 1);
-    }
-    k
+    let mut lines = s.split(|b| *b == b'\n');
+    let before = lines.position(|one| alike(one, line, from));
+    before.map_or(0, |i| i.saturating_add(1))
 }

@@ -1,167 +1,166 @@
-// Number 13: what is wrong with the fields of a line whose word stands in its place, by themselves and held against the net. What is
-// found is answered as a cause.
+// Number 13: what is wrong with the fields of a line whose word stands in its place, by themselves and held against the net.
 
 #![tactic(auto)]
 
 pub mod alike;
+mod cause;
 
 use crate::alike::first_alike;
-use cause_text::cause::{Cause, counted, first_cause, of_byte, of_field, said};
-use cause_text::sentences;
-use cause_text::sentences::NONE;
+pub use crate::cause::FieldCause;
+use cause_text::shown::{Named, Numbered};
 use limits::LONGEST_FORGERY;
-use line_fields::bytes::{
-    CAPITAL_DIGIT, NO_DIGIT, NO_HEX_DIGIT, SPACE, behind, first_place, nth_place, spaces,
-};
-use line_fields::forms::{CARRY, FAULTY, FORGE, ID, NET, START, asked};
-use line_fields::line::{field, value};
-use parts::{between, plus};
+use line_fields::forms::Form;
+use line_fields::line::{field, fields_from, value};
+use line_fields::spaces::{nth_space, spaces};
 use text::number::{Number, number_at};
 
 // What keeps a field that is there from being a decimal number without leading zeros, at most 4,294,967,295.
-fn number_fault(bytes: &[u8]) -> usize {
-    if first_place(bytes, NO_DIGIT) < bytes.len() {
-        return sentences::NOT_DIGITS;
+fn decimal_cause<'a>(form: Form, line: &'a [u8], i: usize) -> Option<FieldCause<'a>> {
+    let digits = field(line, i);
+    let named = Named::of_line(form, line, i);
+    if digits.iter().any(|b| !b.is_ascii_digit()) {
+        return Some(FieldCause::NotDigits(named));
     }
-    if bytes.len() == 0 {
-        return NONE;
+    if digits.is_empty() {
+        return None;
     }
-    let Number::Value(_, next) = number_at(bytes, 0) else {
-        return sentences::TOO_LARGE;
-    };
-    if next == bytes.len() {
-        return NONE;
+    match number_at(digits, 0) {
+        Number::Value(_, next) if next == digits.len() => None,
+        Number::Value(_, _) => Some(FieldCause::LeadingZero(named)),
+        Number::Bad => Some(FieldCause::TooLarge(named)),
     }
-    sentences::LEADING_ZERO
-}
-
-fn decimal_cause(line: &[u8], i: usize) -> Cause {
-    of_field(number_fault(field(line, i)), i, 0)
 }
 
 fn in_net(line: &[u8], i: usize, n: usize) -> bool {
     let b = value(line, i);
-    if 0 < b {
-        return b <= n;
-    }
-    false
+    0 < b && b <= n
 }
 
 // What is told of hex behind the count of fields: the bytes may be missing with their space.
-pub fn hex_hint(kind: usize, line: &[u8], n: usize) -> Cause {
-    let count = spaces(line);
-    if kind != FORGE {
-        return said(NONE);
+pub fn hex_hint<'a>(form: Form, line: &'a [u8], n: usize) -> Option<FieldCause<'a>> {
+    if form != Form::Forge {
+        return None;
     }
-    if 3 < count {
-        return of_byte(sentences::HEX_TOGETHER, line, nth_place(line, SPACE, 3));
+    if let Some(place) = nth_space(line, 3) {
+        return Some(FieldCause::HexTogether(place.saturating_add(1)));
     }
-    if count == 2 {
-        if in_net(line, 2, n) {
-            return said(sentences::SPACE_BEFORE_HEX);
-        }
+    if spaces(line) == 2 && in_net(line, 2, n) {
+        return Some(FieldCause::SpaceBeforeHex);
     }
-    said(NONE)
+    None
 }
 
-// A digit of hex that there is not.
-fn hex_digit_cause(line: &[u8]) -> Cause {
-    let digits = field(line, 3);
-    let place = first_place(digits, NO_HEX_DIGIT);
-    let mut sentence = sentences::NOT_HEX;
-    if first_place(digits, CAPITAL_DIGIT) == place {
-        sentence = sentences::CAPITAL_HEX;
-    }
-    of_byte(sentence, line, plus(behind(line, SPACE, 3), place))
+// A digit of hex that there is not, in the last field.
+fn hex_digit_cause<'a>(line: &'a [u8]) -> Option<FieldCause<'a>> {
+    let digits = fields_from(line, 3);
+    let place = digits
+        .iter()
+        .position(|b| !matches!(*b, b'0'..=b'9' | b'a'..=b'f'))?;
+    let byte = *digits.get(place)?;
+    let before = line.len().saturating_sub(digits.len());
+    let number = before.saturating_add(place).saturating_add(1);
+    Some(match byte {
+        b'A'..=b'F' => FieldCause::CapitalHex(Numbered { number, byte }),
+        _ => FieldCause::NotHex(Numbered { number, byte }),
+    })
 }
 
 // Two digits a byte, as many as a line can forge.
-fn hex_length(length: usize) -> Cause {
+fn hex_length<'a>(length: usize) -> Option<FieldCause<'a>> {
     if length % 2 == 1 {
-        return counted(sentences::ODD_DIGITS, length);
+        return Some(FieldCause::OddDigits(length));
     }
     if 2 * LONGEST_FORGERY < length {
-        return counted(sentences::TOO_MANY_BYTES, length / 2);
+        return Some(FieldCause::TooManyBytes(length / 2));
     }
-    said(NONE)
+    None
 }
 
-fn third(kind: usize, line: &[u8]) -> Cause {
-    if kind == FORGE {
-        return first_cause(hex_digit_cause(line), hex_length(field(line, 3).len()));
+fn third<'a>(form: Form, line: &'a [u8]) -> Option<FieldCause<'a>> {
+    if form == Form::Forge {
+        return hex_digit_cause(line).or(hex_length(field(line, 3).len()));
     }
-    decimal_cause(line, 3)
+    decimal_cause(form, line, 3)
 }
 
-fn base_cause(line: &[u8], i: usize, n: usize) -> Cause {
+fn base_cause<'a>(form: Form, line: &'a [u8], i: usize, n: usize) -> Option<FieldCause<'a>> {
     if in_net(line, i, n) {
-        return said(NONE);
+        return None;
     }
-    of_field(sentences::NO_BASE, i, n)
+    Some(FieldCause::NoBase(Named::of_line(form, line, i), n))
 }
 
 // Two different bases of the net.
-fn bases(line: &[u8], n: usize) -> Cause {
-    let both = first_cause(base_cause(line, 1, n), base_cause(line, 2, n));
+fn bases<'a>(form: Form, line: &'a [u8], n: usize) -> Option<FieldCause<'a>> {
+    let both = base_cause(form, line, 1, n).or(base_cause(form, line, 2, n));
     if value(line, 1) == value(line, 2) {
-        return first_cause(both, said(sentences::SAME_BASE));
+        return both.or(Some(FieldCause::SameBase));
     }
     both
 }
 
-fn faulty(s: &[u8], line: &[u8]) -> Cause {
+fn faulty<'a>(s: &[u8], line: &'a [u8]) -> FieldCause<'a> {
     if value(line, 2) < value(line, 1) {
-        return said(sentences::LARGER_FIRST);
+        return FieldCause::LargerFirst;
     }
-    counted(sentences::LINK_AGAIN, first_alike(s, line, 0))
+    FieldCause::LinkAgain(first_alike(s, line, 0))
 }
 
 // Of a base whose line stands before the one that is refused, which line that is.
-pub fn line_of_base(line: &[u8], number: usize) -> Cause {
-    let b = value(line, 1);
-    if b == 0 {
-        return said(NONE);
+pub fn line_of_base<'a>(line: &'a [u8], number: usize) -> Option<FieldCause<'a>> {
+    let base = value(line, 1);
+    let its_line = base.saturating_add(1);
+    if base == 0 || number <= its_line {
+        return None;
     }
-    if number <= plus(b, 1) {
-        return said(NONE);
-    }
-    of_field(sentences::HAS_LINE, 1, plus(b, 1))
+    Some(FieldCause::HasLine {
+        line: its_line,
+        base,
+    })
 }
 
 // In the header, or behind it.
-fn id(line: &[u8], number: usize, n: usize) -> Cause {
-    if number <= plus(n, 1) {
-        return of_field(sentences::OTHER_BASE, 1, between(0, number));
+fn id<'a>(line: &'a [u8], number: usize, n: usize) -> Option<FieldCause<'a>> {
+    let named = Named::of_line(Form::Id, line, 1);
+    if number <= n.saturating_add(1) {
+        return Some(FieldCause::OtherBase(named, number.saturating_sub(1)));
     }
-    let again = of_field(sentences::ID_AGAIN, 1, plus(value(line, 1), 1));
-    first_cause(base_cause(line, 1, n), again)
+    let again = FieldCause::IdAgain(named, value(line, 1).saturating_add(1));
+    base_cause(Form::Id, line, 1, n).or(Some(again))
 }
 
 // The fields together, and held against the net.
-fn together(kind: usize, s: &[u8], line: &[u8], number: usize, n: usize) -> Cause {
-    match kind {
-        NET => said(NONE),
-        ID => id(line, number, n),
-        FAULTY => first_cause(bases(line, n), faulty(s, line)),
-        START => base_cause(line, 1, n),
-        CARRY => first_cause(bases(line, n), said(sentences::NUMBER_ZERO)),
-        _ => bases(line, n),
+fn together<'a>(
+    form: Form,
+    s: &[u8],
+    line: &'a [u8],
+    number: usize,
+    n: usize,
+) -> Option<FieldCause<'a>> {
+    match form {
+        Form::Net => None,
+        Form::Id => id(line, number, n),
+        Form::Faulty => bases(form, line, n).or(Some(faulty(s, line))),
+        Form::Start => base_cause(form, line, 1, n),
+        Form::Carry => bases(form, line, n).or(Some(FieldCause::NumberZero)),
+        Form::Forge => bases(form, line, n),
     }
-}
-
-// Each field by itself.
-fn each(kind: usize, line: &[u8]) -> Cause {
-    first_cause(
-        decimal_cause(line, 1),
-        first_cause(decimal_cause(line, 2), third(kind, line)),
-    )
 }
 
 // Of the line of that number, in a net of n.
-pub fn field_cause(kind: usize, s: &[u8], line: &[u8], number: usize, n: usize) -> Cause {
+pub fn field_cause<'a>(
+    form: Form,
+    s: &[u8],
+    line: &'a [u8],
+    number: usize,
+    n: usize,
+) -> Option<FieldCause<'a>> {
     let count = spaces(line);
-    if count != asked(kind) {
-        return counted(sentences::FIELD_COUNT, count);
+    if count != form.asked() {
+        return Some(FieldCause::FieldCount(form, count));
     }
-    first_cause(each(kind, line), together(kind, s, line, number, n))
+    decimal_cause(form, line, 1)
+        .or(decimal_cause(form, line, 2))
+        .or(third(form, line))
+        .or(together(form, s, line, number, n))
 }

@@ -1,140 +1,132 @@
-// Number 13: what breaks a line's form before its fields are looked at: its bytes, its spaces, its word. What is found is answered as a
-// cause.
+// Number 13: what breaks a line's form before its fields are looked at: its bytes, its spaces, its word.
 
 #![tactic(auto)]
 
+mod cause;
 mod encoding;
 
+pub use crate::cause::FormCause;
 use crate::encoding::encoding;
-use cause_text::cause::{Cause, counted, first_cause, of_byte, of_field, said};
-use cause_text::sentences;
-use cause_text::sentences::NONE;
-use line_fields::bytes::{COMMENT, NOT_PRINTING, SPACE, first_place, odd_space, spaces};
-use line_fields::forms::{FAULTY, FORGE, ID, NET, asked};
-use line_fields::line::fields_from;
-use parts::{between, part, plus};
+use cause_text::shown::Numbered;
+use line_fields::forms::Form;
+use line_fields::line::field;
+use line_fields::spaces::{odd_space, spaces};
+use parts::prints;
 
 // The line of the header that belongs here: of the net, or of base b in line b + 1.
-pub fn belongs(number: usize) -> Cause {
+pub fn belongs<'a>(number: usize) -> FormCause<'a> {
     if number < 2 {
-        return said(sentences::FIRST_LINE);
+        return FormCause::FirstLine;
     }
-    counted(sentences::BELONGS, between(0, number))
+    FormCause::Belongs(number - 1)
 }
 
-// How a byte that does not print is named.
-fn odd_byte(b: u8) -> usize {
-    match b {
-        b'\r' => sentences::CARRIAGE_RETURN,
-        b'\t' => sentences::TAB,
-        _ => sentences::CONTROL + (b / 128) as usize,
-    }
+// The first byte that does not print.
+fn odd_byte<'a>(line: &'a [u8]) -> Option<FormCause<'a>> {
+    let place = line.iter().position(|b| !prints(*b))?;
+    let byte = *line.get(place)?;
+    let number = place.saturating_add(1);
+    Some(match byte {
+        b'\r' => FormCause::CarriageReturn(number),
+        b'\t' => FormCause::Tab(number),
+        0..128 => FormCause::Control(Numbered { number, byte }),
+        _ => FormCause::NotAscii(Numbered { number, byte }),
+    })
 }
 
-fn odd_bytes(line: &[u8]) -> Cause {
-    let place = first_place(line, NOT_PRINTING);
-    if line.len() <= place {
-        return said(NONE);
-    }
-    counted(odd_byte(line[place]), plus(place, 1))
+fn comment<'a>(line: &'a [u8]) -> Option<FormCause<'a>> {
+    let place = line.iter().position(|b| *b == b'#')?;
+    Some(FormCause::Comment(place.saturating_add(1)))
 }
 
 // A line feed stands behind the line, or else the schedule ends with it.
-fn unended(s: &[u8], line: &[u8], at: usize) -> Cause {
-    if plus(at, line.len()) < s.len() {
-        return said(NONE);
+fn unended<'a>(s: &[u8], line: &[u8], at: usize) -> Option<FormCause<'a>> {
+    if at.saturating_add(line.len()) < s.len() {
+        return None;
     }
-    said(sentences::NO_LINE_FEED)
+    Some(FormCause::NoLineFeed)
 }
 
-// A space behind which the line ends: a field is missing there, or the space is too many.
-fn end_space(kind: usize, line: &[u8], count: usize) -> Cause {
-    if 0 < kind {
-        if count <= asked(kind) {
-            return of_field(sentences::MISSING, count, 0);
-        }
-    }
-    of_byte(sentences::SPACE_AT_END, line, between(0, line.len()))
-}
-
-// Behind `forge a b ` there may be nothing.
-fn last_space(kind: usize, line: &[u8]) -> Cause {
+// A space behind which the line ends: a field is missing there, or the space is too many. Behind `forge a b ` there may be nothing.
+fn last_space<'a>(form: Option<Form>, line: &'a [u8]) -> Option<FormCause<'a>> {
     let count = spaces(line);
-    if 0 < fields_from(line, count).len() {
-        return said(NONE);
+    if !line.ends_with(b" ") || (count == 3 && form == Some(Form::Forge)) {
+        return None;
     }
-    if count == 3 {
-        if kind == FORGE {
-            return said(NONE);
-        }
+    match form {
+        Some(form) if count <= form.asked() => Some(FormCause::Missing(form, count)),
+        _ => Some(FormCause::SpaceAtEnd(line.len())),
     }
-    end_space(kind, line, count)
 }
 
 // A space that has no word before it, and whether a word follows.
-fn space_before(line: &[u8]) -> Cause {
-    let place = odd_space(line);
-    let rest = part(line, place, line.len());
-    let mut sentence = sentences::SPACE_TOO_MANY;
-    if spaces(rest) == rest.len() {
-        sentence = sentences::SPACE_AT_END;
+fn space_before<'a>(line: &'a [u8]) -> Option<FormCause<'a>> {
+    let place = odd_space(line)?;
+    let number = place.saturating_add(1);
+    let behind = line.get(place..).unwrap_or(&[]);
+    if behind.iter().all(|b| *b == b' ') {
+        return Some(FormCause::SpaceAtEnd(number));
     }
-    of_byte(sentence, line, place)
+    Some(FormCause::SpaceTooMany(number))
 }
 
-fn unknown(kind: usize, line: &[u8]) -> Cause {
-    if 0 < kind {
-        return said(NONE);
+fn unknown<'a>(line: &'a [u8]) -> FormCause<'a> {
+    if line.is_empty() {
+        return FormCause::Empty;
     }
-    if line.len() == 0 {
-        return said(sentences::EMPTY);
-    }
-    said(sentences::NO_WORD)
+    FormCause::NoWord(field(line, 0))
 }
 
-// The kind of a header's line but for the faulty links.
-fn header_kind(number: usize) -> usize {
+// The form of a header's line but for the faulty links.
+fn header_form(number: usize) -> Form {
     if number < 2 {
-        return NET;
+        return Form::Net;
     }
-    ID
+    Form::Id
 }
 
-fn behind_the_header(kind: usize, number: usize, events: usize) -> Cause {
-    if kind == NET {
-        return said(sentences::NET_AGAIN);
+fn behind_the_header<'a>(form: Form, number: usize, events: usize) -> Option<FormCause<'a>> {
+    match form {
+        Form::Net => Some(FormCause::NetAgain),
+        Form::Faulty if events < number => Some(FormCause::FaultyLate),
+        _ => None,
     }
-    if kind == FAULTY {
-        if events < number {
-            return said(sentences::FAULTY_LATE);
-        }
-    }
-    said(NONE)
 }
 
 // A word that stands in another place than its own.
-fn misplaced(kind: usize, number: usize, n: usize, faulty: usize) -> Cause {
-    if plus(n, 1) < number {
-        return behind_the_header(kind, number, plus(plus(n, faulty), 2));
+fn misplaced<'a>(form: Form, number: usize, n: usize, faulty: usize) -> Option<FormCause<'a>> {
+    if n.saturating_add(1) < number {
+        let events = n.saturating_add(faulty).saturating_add(2);
+        return behind_the_header(form, number, events);
     }
-    if kind == header_kind(number) {
-        return said(NONE);
+    if form == header_form(number) {
+        return None;
     }
-    belongs(number)
+    Some(belongs(number))
 }
 
 // Of a line that begins at a place.
-pub fn byte_cause(s: &[u8], line: &[u8], at: usize) -> Cause {
-    let comment = of_byte(sentences::NO_COMMENTS, line, first_place(line, COMMENT));
-    let bytes = first_cause(comment, first_cause(odd_bytes(line), unended(s, line, at)));
-    first_cause(encoding(s, at), bytes)
+pub fn byte_cause<'a>(s: &[u8], line: &'a [u8], at: usize) -> Option<FormCause<'a>> {
+    encoding(s, at)
+        .or(comment(line))
+        .or(odd_byte(line))
+        .or(unended(s, line, at))
 }
 
-pub fn space_cause(kind: usize, line: &[u8]) -> Cause {
-    first_cause(space_before(line), last_space(kind, line))
+pub fn space_cause<'a>(form: Option<Form>, line: &'a [u8]) -> Option<FormCause<'a>> {
+    space_before(line).or(last_space(form, line))
 }
 
 // Of the line of that number, in a net of n with so many faulty links.
-pub fn word_cause(kind: usize, line: &[u8], number: usize, n: usize, faulty: usize) -> Cause {
-    first_cause(unknown(kind, line), misplaced(kind, number, n, faulty))
+pub fn word_cause<'a>(
+    form: Option<Form>,
+    line: &'a [u8],
+    number: usize,
+    n: usize,
+    faulty: usize,
+) -> Option<FormCause<'a>> {
+    match form {
+        Some(form) => misplaced(form, number, n, faulty),
+        None => Some(unknown(line)),
+    }
 }

@@ -11,70 +11,68 @@ mod show;
 
 use crate::line::{count, small};
 use input::failure::say_failed;
-use input::{Input, read_input};
-use line_fields::line::{field, line_at};
-use parts::{part, plus};
+use input::read_input;
+use line_fields::line::field;
+use parts::part;
+use std::io;
 
 fn main(rt: HostRuntime) {
-    let mut text = io::large_buffer();
+    let mut text = [0u8; 65536];
     match read_input(&mut rt.stdin(), &mut text) {
-        Input::Failed(why) => say_failed(
-            &rt.stderr(),
-            b"frame_vectors: reading standard input",
-            why,
-        ),
-        Input::Read(length) => all(part(&text, 0, length)),
-    }
-}
-
-fn all(text: &[u8]) {
-    let mut at: usize = 0;
-    let mut k: usize = 0;
-    while k < text.len() {
-        k += 1;
-        if text.len() <= at {
-            return;
+        Err(why) => say_failed(&rt.stderr(), "frame_vectors", "reading standard input", why),
+        Ok(length) => {
+            // Where that cannot be written, there is nobody left to tell.
+            let _ = all(&rt, &text[..length]);
         }
-        let line = line_at(text, at);
-        vector(line);
-        at = plus(plus(at, line.len()), 1);
     }
 }
 
-fn vector(line: &[u8]) {
-    match line::letter(line) {
-        b'r' => reads(line),
-        b'w' => writes(line),
-        b't' => writes_two(line),
-        _ => show::text_line(line),
+fn all(out: &impl Print, text: &[u8]) -> io::Result<()> {
+    for line in text.split_inclusive(|b| *b == b'\n') {
+        vector(out, line.strip_suffix(b"\n").unwrap_or(line))?;
+    }
+    Ok(())
+}
+
+fn vector(out: &impl Print, line: &[u8]) -> io::Result<()> {
+    match line.first() {
+        Some(b'r') => reads(out, line),
+        Some(b'w') => writes(out, line),
+        Some(b't') => writes_two(out, line),
+        _ => {
+            out.write_all(line)?;
+            println!(out)
+        }
     }
 }
 
-fn reads(line: &[u8]) {
+fn reads(out: &impl Print, line: &[u8]) -> io::Result<()> {
     let digits = field(line, 2);
     let bytes = line::hex_field(digits);
-    show::reading(count(line, 1), part(&bytes, 0, digits.len() / 2));
+    show::reading(out, count(line, 1), part(&bytes, 0, digits.len() / 2))
 }
 
-fn writes(line: &[u8]) {
+fn writes(out: &impl Print, line: &[u8]) -> io::Result<()> {
     let ids = line::ids_from(line, 4);
     let mut output = [0xeeu8; line::BYTES];
     show::written(
+        out,
         count(line, 1),
         small(line, 2),
         line::first(&ids, line::behind_fields(line, 4)),
         line::room(&mut output, count(line, 3)),
-    );
+    )
 }
 
-fn writes_two(line: &[u8]) {
+fn writes_two(out: &impl Print, line: &[u8]) -> io::Result<()> {
     let ids = line::ids_from(line, 5);
     let mut output = [0xeeu8; line::BYTES];
     show::two(
+        out,
         small(line, 2),
         small(line, 3),
         small(line, 1),
         line::first(&ids, line::behind_fields(line, 5)),
         line::room(&mut output, count(line, 4)),
-    );
+    )
 }

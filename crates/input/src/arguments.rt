@@ -1,31 +1,17 @@
 // What a program is called with.
 use std::env::{Env, FillError};
-use words::{Word, word_at};
 
 const HELP: usize = 6;
 
 // Whether there is an argument of a number; number 0 is the program's name. There is no room for it here, and it is not wanted.
 fn is_given(rt: &impl Env, i: usize) -> bool {
-    match rt.arg(i, &mut []) {
-        Ok(_) => true,
-        Err(FillError::TooLong) => true,
-        Err(FillError::NotPresent) => false,
-    }
+    !matches!(rt.arg(i, &mut []), Err(FillError::NotPresent))
 }
 
 // Whether the one argument is `--help`.
 fn asks_help(rt: &impl Env) -> bool {
-    if is_given(rt, 2) {
-        return false;
-    }
     let mut word = [0u8; HELP];
-    if rt.arg(1, &mut word).unwrap_or(0) != HELP {
-        return false;
-    }
-    if let Word::Past(_) = word_at(&word, 0, b"--help") {
-        return true;
-    }
-    false
+    !is_given(rt, 2) && rt.arg(1, &mut word).unwrap_or(0) == HELP && word == *b"--help"
 }
 
 // Whether a program is called with no argument. Where it is called for help its usage is printed, and with anything else it is said that
@@ -33,16 +19,17 @@ fn asks_help(rt: &impl Env) -> bool {
 pub fn no_argument(
     rt: &(impl Env + Print),
     errors: &impl Print,
-    usage: &[u8],
-    none_taken: &[u8],
+    name: &str,
+    usage: &str,
+    none_taken: &str,
 ) -> bool {
     if asks_help(rt) {
-        let _ = rt.write_all(usage);
+        let _ = println!(rt; "usage: {name} < SCHEDULE    {usage}");
         return false;
     }
     if !is_given(rt, 1) {
         return true;
     }
-    let _ = errors.write_all(none_taken);
+    let _ = println!(errors; "{name}: no argument is taken; {none_taken}");
     false
 }

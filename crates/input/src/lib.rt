@@ -1,49 +1,28 @@
-// Standard input, read whole; and what a program is called with.
+// Standard input, read whole; what a program is called with; and what the programs that read a schedule have in common.
 
 #![tactic(auto)]
 
 pub mod arguments;
 pub mod failure;
+pub mod program;
 
-ghost use Rattle.std.specs.Prelude.{◌≤◌, length};
-ghost use Rattle.input.specs.Within.{ReadWithin};
+ghost use Rattle.std.specs.Prelude.{◌≤◌, length, IfOk};
 
-use std::io::{Error, Read};
+use std::io;
+use std::io::Read;
 
-// How many bytes were read, at the front of a buffer, or why a read failed.
-#[derive(Clone, Copy)]
-pub enum Input {
-    Read(usize),
-    Failed(Error),
-}
-
-// One read behind the bytes that are there already. The input has ended where their number stays.
-fn read_more(reader: &mut impl Read, buffer: &mut [u8], done: usize) -> Input
-    requires { done ≤ length buffer.old }
-    ensures { ReadWithin (length buffer.old) result }
-{
-    match reader.read(&mut buffer[done..]) {
-        Ok(got) => Input::Read(done + got),
-        Err(why) => Input::Failed(why),
-    }
-}
-
-// Reads until the buffer is full or the input ends: every read but the last brings a byte at least.
-pub fn read_input(reader: &mut impl Read, buffer: &mut [u8]) -> Input
-    ensures { ReadWithin (length buffer.old) result }
+// Reads until the buffer is full or the input ends: every read but the last brings a byte at least. Answers how many bytes were read, at
+// the front of the buffer.
+pub fn read_input(reader: &mut impl Read, buffer: &mut [u8]) -> io::Result<usize>
+    ensures { IfOk result (λ n. n ≤ length buffer.old) }
 {
     let mut done: usize = 0;
-    let mut turns: usize = 0;
-    while turns < buffer.len() {
-        let now = match read_more(reader, buffer, done) {
-            Input::Read(now) => now,
-            Input::Failed(why) => return Input::Failed(why),
-        };
-        if now == done {
-            return Input::Read(done);
+    for _ in 0..buffer.len() {
+        let got = reader.read(&mut buffer[done..])?;
+        if got == 0 {
+            break;
         }
-        done = now;
-        turns += 1;
+        done += got;
     }
-    Input::Read(done)
+    Ok(done)
 }

@@ -1,52 +1,50 @@
 // The forms of a schedule's lines.
-use crate::bytes::spaces;
-use crate::line::{field, is_same, row};
-use output::text;
+use crate::line::field;
+use crate::spaces::spaces;
 
-// A row a kind, which is its number.
-const FORMS: [u8; 61] = *b"
-net n t
-id b v
-faulty a b
-start b
-carry a b k
-forge a b hex
-";
-
-pub const NET: usize = 1;
-
-pub const ID: usize = 2;
-
-pub const FAULTY: usize = 3;
-
-pub const START: usize = 4;
-
-pub const CARRY: usize = 5;
-
-pub const FORGE: usize = 6;
-
-pub fn form(kind: usize) {
-    text(row(&FORMS, kind));
+#[derive(Clone, Copy, PartialEq)]
+pub enum Form {
+    Net,
+    Id,
+    Faulty,
+    Start,
+    Carry,
+    Forge,
 }
 
-// The name of field i.
-pub fn name(kind: usize, i: usize) {
-    text(field(row(&FORMS, kind), i));
-}
-
-// How many fields stand behind the word.
-pub fn asked(kind: usize) -> usize {
-    spaces(row(&FORMS, kind))
-}
-
-// Which line it is by its word; 0 where there is no such word.
-pub fn line_kind(line: &[u8]) -> usize {
-    let mut kind: usize = 0;
-    while kind < FORGE {
-        kind += 1;
-        if is_same(field(row(&FORMS, kind), 0), field(line, 0)) {
-            return kind;
+impl Form {
+    // Of a line by its word, where there is such a word.
+    pub fn of_line(line: &[u8]) -> Option<Form> {
+        match field(line, 0) {
+            b"net" => Some(Form::Net),
+            b"id" => Some(Form::Id),
+            b"faulty" => Some(Form::Faulty),
+            b"start" => Some(Form::Start),
+            b"carry" => Some(Form::Carry),
+            b"forge" => Some(Form::Forge),
+            _ => None,
         }
     }
-    0
+
+    // The word, and the names of the fields behind it.
+    pub fn text(self) -> &'static str {
+        match self {
+            Form::Net => "net n t",
+            Form::Id => "id b v",
+            Form::Faulty => "faulty a b",
+            Form::Start => "start b",
+            Form::Carry => "carry a b k",
+            Form::Forge => "forge a b hex",
+        }
+    }
+
+    // The name of field i.
+    pub fn name(self, i: usize) -> &'static str {
+        self.text().split(' ').nth(i).unwrap_or("")
+    }
+
+    // How many fields stand behind the word.
+    pub fn asked(self) -> usize {
+        spaces(self.text().as_bytes())
+    }
 }

@@ -1,9 +1,9 @@
 // A line as it stands.
-use parts::{between, part};
+use std::io;
 
-// `line L: ` and the schedule's own line, which ends before next.
-pub fn show_line(s: &[u8], at: usize, number: usize, next: usize) {
-    output::with_numbers(b"line #: ", [number, 0, 0]);
-    output::text(part(s, at, between(at, next)));
-    output::text(b"\n");
+// `line L: ` and the schedule's own line.
+pub fn show_line(out: &impl Print, number: usize, line: &[u8]) -> io::Result<()> {
+    print!(out; "line {number}: ")?;
+    out.write_all(line)?;
+    println!(out)
 }

@@ -1,7 +1,6 @@
-// Messages in words, told on standard output: of a burst, and of the frames that a call broadcast; and the pieces of which every line of a
-// trace is made.
+// Messages in words: of a burst, and of the frames that a call broadcast, told on standard output.
 
 #![tactic(auto)]
 
-pub mod frames;
-pub mod say;
+pub mod call;
+pub mod message;

@@ -10,29 +10,23 @@ pub mod waits;
 use header::read_header;
 use line_trace::line::show_line;
 use net::Header;
-use parts::plus;
+use std::io;
 
 // Every line that ends before a place.
-fn show_lines(s: &[u8], end: usize) {
-    let mut at: usize = 0;
+fn show_lines(out: &impl Print, s: &[u8], end: usize) -> io::Result<()> {
     let mut number: usize = 1;
-    let mut k: usize = 0;
-    while k < s.len() {
-        if end <= k {
-            return;
+    for ended in s.get(..end).unwrap_or(s).split_inclusive(|b| *b == b'\n') {
+        if let Some(line) = ended.strip_suffix(b"\n") {
+            show_line(out, number, line)?;
         }
-        if s[k] == b'\n' {
-            show_line(s, at, number, plus(k, 1));
-            at = plus(k, 1);
-            number = plus(number, 1);
-        }
-        k += 1;
+        number = number.saturating_add(1);
     }
+    Ok(())
 }
 
 // The header, its lines shown up to one that is refused.
-pub fn show_header(schedule: &[u8]) -> Header {
+pub fn show_header(out: &impl Print, schedule: &[u8]) -> io::Result<Header> {
     let header = read_header(schedule);
-    show_lines(schedule, header.at);
-    header
+    show_lines(out, schedule, header.at)?;
+    Ok(header)
 }

@@ -5,62 +5,56 @@ use limits::refusal::FORM;
 use lines::event::Line;
 use net::nodes::node_at;
 use net::{Header, StoredNet};
+use std::io;
 
 // How many messages the sender of the next line, a carry, has broadcast; 0 of any other line.
 fn sender_broadcasts(s: &[u8], net: StoredNet) -> usize {
-    let here = net.at;
-    let Line::Carry {
-        from,
-        to: _,
-        number: _,
-        next: _,
-    } = event_line(net.n, s, here)
-    else {
-        return 0;
-    };
-    let sender = node_at(net, from);
-    sender.count
+    match event_line(net.n, s, net.at) {
+        Line::Carry { from, .. } => node_at(net, from).count,
+        _ => 0,
+    }
 }
 
 // Why a line of the header is refused.
-pub fn explain_header(schedule: &[u8], header: Header) {
-    let faulty = header.faulty;
+pub fn explain_header(out: &impl Print, schedule: &[u8], header: Header) -> io::Result<()> {
     explain(
+        out,
         schedule,
-        RefusedLine {
+        &RefusedLine {
             refusal: header.refusal,
             number: header.line,
             at: header.at,
             n: header.n as usize,
             t: header.t as usize,
-            faulty: faulty.count,
+            faulty: header.faulty.count,
             broadcasts: 0,
         },
-    );
+    )
 }
 
 // Why a line of events is refused.
-pub fn explain_event(schedule: &[u8], net: StoredNet) {
-    let faulty = net.faulty;
+pub fn explain_event(out: &impl Print, schedule: &[u8], net: StoredNet) -> io::Result<()> {
     explain(
+        out,
         schedule,
-        RefusedLine {
+        &RefusedLine {
             refusal: net.refusal,
             number: net.line,
             at: net.at,
             n: net.n as usize,
             t: net.t as usize,
-            faulty: faulty.count,
+            faulty: net.faulty.count,
             broadcasts: sender_broadcasts(schedule, net),
         },
-    );
+    )
 }
 
 // Of a schedule that is too long, line 1 is named.
-pub fn explain_length(schedule: &[u8]) {
+pub fn explain_length(out: &impl Print, schedule: &[u8]) -> io::Result<()> {
     explain(
+        out,
         schedule,
-        RefusedLine {
+        &RefusedLine {
             refusal: FORM,
             number: 1,
             at: 0,
@@ -69,5 +63,5 @@ pub fn explain_length(schedule: &[u8]) {
             faulty: 0,
             broadcasts: 0,
         },
-    );
+    )
 }

@@ -12,49 +12,41 @@ use schedule_text::refused::{explain_event, explain_header, explain_length};
 use schedule_text::show_header;
 use schedule_text::slots::say_slots_taken;
 use schedule_text::waits::itemise;
+use std::io;
 
-fn step(s: &[u8], net: StoredNet) -> StoredNet {
+fn step(out: &impl Print, s: &[u8], net: StoredNet) -> io::Result<StoredNet> {
     let after = line_steps(s, net, 1);
     if after.refusal == 0 {
-        show_event(s, net);
+        show_event(out, s, net)?;
     }
-    after
+    Ok(after)
 }
 
-// Every event, up to the schedule's end or the first line that is refused.
-fn steps(s: &[u8], first: StoredNet) -> StoredNet {
+// Every event, up to the schedule's end or the first line that is refused: no more lines than there are bytes.
+fn steps(out: &impl Print, s: &[u8], first: StoredNet) -> io::Result<StoredNet> {
     let mut net = first;
-    let mut k: usize = 0;
-    while k < s.len() {
-        k += 1;
-        if net.refusal != 0 {
-            return net;
+    for _ in 0..s.len() {
+        if net.refusal != 0 || s.len() <= net.at {
+            break;
         }
-        if s.len() <= net.at {
-            return net;
-        }
-        net = step(s, net);
+        net = step(out, s, net)?;
     }
-    net
-}
-
-// What stands behind the events.
-fn ending(schedule: &[u8], net: StoredNet) {
-    if net.refusal != 0 {
-        return explain_event(schedule, net);
-    }
-    itemise(net);
-    say_slots_taken(net);
+    Ok(net)
 }
 
 // The lines, and what stands behind them.
-pub fn show(schedule: &[u8]) {
+pub fn show(out: &impl Print, schedule: &[u8]) -> io::Result<()> {
     if LONGEST_SCHEDULE < schedule.len() {
-        return explain_length(schedule);
+        return explain_length(out, schedule);
     }
-    let header = show_header(schedule);
+    let header = show_header(out, schedule)?;
     if header.refusal != 0 {
-        return explain_header(schedule, header);
+        return explain_header(out, schedule, header);
     }
-    ending(schedule, steps(schedule, begun_net(header)));
+    let net = steps(out, schedule, begun_net(header))?;
+    if net.refusal != 0 {
+        return explain_event(out, schedule, net);
+    }
+    itemise(out, net)?;
+    say_slots_taken(out, net)
 }

@@ -4,19 +4,30 @@ use held::has_announce;
 use held_lists::holds_verify;
 use limits::{MOST_FAULTY, MOST_LINKS};
 use numbering::{base_at, link_at};
-use output::{text, with_numbers};
-use parts::plus;
 use protocol::{Base, Link};
+use std::fmt;
+use std::io;
 
 // Pairs that are named: as many as t can be, and the one that is too many.
 pub(crate) const NAMED: usize = MOST_FAULTY + 1;
 
 // Whether a link that has an Announce lacks a Verify.
 pub(crate) fn lacks(link: Link, g: u32) -> bool {
-    if has_announce(link) {
-        return !holds_verify(link, g);
+    has_announce(link) && !holds_verify(link, g)
+}
+
+// `link 1 from base 2 lacks Verify 120`, of link i of base b.
+#[derive(Clone, Copy)]
+pub(crate) struct Lacking {
+    pub(crate) b: u8,
+    pub(crate) i: usize,
+    pub(crate) g: u32,
+}
+
+impl fmt::Display for Lacking {
+    fn fmt<W: fmt::Write>(&self, f: &mut fmt::Formatter<W>) -> fmt::Result {
+        write!(f, "link {} from base {} lacks Verify {}", self.i, far_end(self.b, self.i), self.g)
     }
-    false
 }
 
 // The base at the end of that link of base b.
@@ -27,112 +38,88 @@ fn far_end(b: u8, number: usize) -> usize {
     base_at(b, number as u8)
 }
 
-// `link 1 from base 2 lacks Verify 120`
-pub(crate) fn lacking(b: u8, i: usize, g: u32) {
-    with_numbers(
-        b"link # from base # lacks Verify #",
-        [i, far_end(b, i), g as usize],
-    );
+// Before what is named behind so many others.
+pub(crate) fn separator(named: usize) -> &'static str {
+    if named == 0 { "" } else { "; " }
 }
 
-pub(crate) fn separate(named: usize) {
-    if 0 < named {
-        text(b"; ");
+// Two identifiers that are a suspect pair, and what makes it one.
+#[derive(Clone, Copy)]
+struct Pair {
+    g: u32,
+    h: u32,
+    first: Option<Lacking>,
+    second: Option<Lacking>,
+}
+
+impl fmt::Display for Pair {
+    fn fmt<W: fmt::Write>(&self, f: &mut fmt::Formatter<W>) -> fmt::Result {
+        write!(f, "{} and {} (", self.g, self.h)?;
+        if let Some(first) = self.first {
+            write!(f, "{first}")?;
+        }
+        if self.first.is_some() && self.second.is_some() {
+            write!(f, ", ")?;
+        }
+        if let Some(second) = self.second {
+            write!(f, "{second}")?;
+        }
+        write!(f, ")")
     }
 }
 
-// `310 and 120 (`, behind so many pairs
-fn pair(named: usize, g: u32, h: u32) {
-    separate(named);
-    with_numbers(b"# and # (", [g as usize, h as usize, 0]);
-}
-
-// The own identifier and that of a link: only the other's link is looked at. Answers how many pairs there are by now.
-fn own_pair(b: u8, base: Base, i: usize, named: usize) -> usize {
+// The own identifier and that of link i: only the other's link is looked at.
+fn own_pair(b: u8, base: Base, i: usize) -> Option<Pair> {
     let link = link_at(base, i);
     if !lacks(link, base.own) {
-        return named;
+        return None;
     }
-    if named < NAMED {
-        pair(named, base.own, link.announce);
-        lacking(b, i, base.own);
-        text(b")");
-    }
-    plus(named, 1)
+    let first = Some(Lacking { b, i, g: base.own });
+    Some(Pair { g: base.own, h: link.announce, first, second: None })
 }
 
-fn say_pair(b: u8, i: usize, one: Link, j: usize, other: Link, named: usize) {
-    pair(named, one.announce, other.announce);
-    if lacks(one, other.announce) {
-        lacking(b, i, other.announce);
-        if lacks(other, one.announce) {
-            text(b", ");
-        }
-    }
-    if lacks(other, one.announce) {
-        lacking(b, j, one.announce);
-    }
-    text(b")");
-}
-
-fn is_suspect(one: Link, other: Link) -> bool {
-    if !has_announce(one) {
-        return false;
-    }
-    if !has_announce(other) {
-        return false;
-    }
-    if lacks(one, other.announce) {
-        return true;
-    }
-    lacks(other, one.announce)
-}
-
-// The identifiers of two links.
-fn link_pair(b: u8, base: Base, i: usize, j: usize, named: usize) -> usize {
+// The identifiers of links i and j.
+fn link_pair(b: u8, base: Base, i: usize, j: usize) -> Option<Pair> {
     let one = link_at(base, i);
     let other = link_at(base, j);
-    if !is_suspect(one, other) {
-        return named;
+    let (g, h) = (one.announce, other.announce);
+    let first = lacks(one, h).then_some(Lacking { b, i, g: h });
+    let second = lacks(other, g).then_some(Lacking { b, i: j, g });
+    if !has_announce(one) || !has_announce(other) || first.or(second).is_none() {
+        return None;
     }
-    if named < NAMED {
-        say_pair(b, i, one, j, other, named);
-    }
-    plus(named, 1)
+    Some(Pair { g, h, first, second })
 }
 
-// The pairs of a link with the own identifier and with the links before it.
-fn pairs_of(b: u8, base: Base, i: usize, before: usize) -> usize {
-    let mut named = own_pair(b, base, i, before);
-    let mut j: usize = 1;
-    while j < i {
-        named = link_pair(b, base, j, i, named);
-        j += 1;
+// The pairs of link i with the own identifier, as j = 0, and with the links before it. Answers how many pairs there are by now.
+fn pairs_of(out: &impl Print, b: u8, base: Base, i: usize, before: usize) -> io::Result<usize> {
+    let mut named = before;
+    for j in 0..i {
+        let pair = if j == 0 { own_pair(b, base, i) } else { link_pair(b, base, j, i) };
+        if let Some(pair) = pair {
+            if named < NAMED {
+                print!(out; "{}{pair}", separator(named))?;
+            }
+            named = named.saturating_add(1);
+        }
     }
-    named
-}
-
-fn pairs(b: u8, base: Base) -> usize {
-    let k = links_in(base.n);
-    let mut named: usize = 0;
-    let mut i: usize = 0;
-    while i < k {
-        i += 1;
-        named = pairs_of(b, base, i, named);
-    }
-    named
+    Ok(named)
 }
 
 // How many there are besides those that are named.
-pub(crate) fn more(named: usize) {
+pub(crate) fn more(out: &impl Print, named: usize) -> io::Result<()> {
     if NAMED < named {
-        with_numbers(b"; and # more", [named - NAMED, 0, 0]);
+        print!(out; "; and {} more", named - NAMED)?;
     }
-    text(b"\n");
+    println!(out)
 }
 
 // Those of a base that has some.
-pub fn suspect_pairs(b: u8, base: Base) {
-    text(b"  suspect: ");
-    more(pairs(b, base));
+pub fn suspect_pairs(out: &impl Print, b: u8, base: Base) -> io::Result<()> {
+    print!(out; "  suspect: ")?;
+    let mut named: usize = 0;
+    for i in 1..=links_in(base.n) {
+        named = pairs_of(out, b, base, i, named)?;
+    }
+    more(out, named)
 }

@@ -1,9 +1,0 @@
--- The loop stays within the slice.
-use Rattle.std.specs.Prelude.{◌≤◌, ◌-◌, length}
-use Rattle.frame_vectors.proofs.show.hex_digits.Given as goal
-
-abbrev pub invariant-loop-i : goal.invariant-loop-i
-invariant-loop-i l = l.i ≤ length l.s
-
-abbrev pub decreases-loop-i : goal.decreases-loop-i
-decreases-loop-i l = length l.s - l.i

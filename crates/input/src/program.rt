@@ -1,0 +1,50 @@
+// A program that answers the schedule of standard input on standard output. What goes wrong is said on standard error, in one line.
+use crate::arguments::no_argument;
+use crate::failure::say_failed;
+use crate::read_input;
+use std::env::Env;
+use std::io;
+use std::io::Read;
+
+pub trait Program {
+    const NAME: &'static str;
+
+    // What `--help` says of it.
+    const USAGE: &'static str;
+
+    // What is said of any other argument.
+    const NONE_TAKEN: &'static str;
+
+    fn answer(&self, out: &impl Print, schedule: &[u8]) -> io::Result<()>;
+}
+
+// Reads the input into a buffer, of which no more than that is looked at, and answers it.
+fn answer_input<P: Program>(
+    program: &P,
+    out: &impl Print,
+    input: &mut impl Read,
+    errors: &impl Print,
+    buffer: &mut [u8],
+) {
+    match read_input(input, buffer) {
+        Err(why) => say_failed(errors, P::NAME, "reading standard input", why),
+        Ok(length) => {
+            if let Err(why) = program.answer(out, &buffer[..length]) {
+                say_failed(errors, P::NAME, "writing standard output", why);
+            }
+        }
+    }
+}
+
+// Runs a program that takes no argument, with room for its input.
+pub fn run<P: Program>(
+    program: &P,
+    rt: &(impl Env + Print),
+    input: &mut impl Read,
+    errors: &impl Print,
+    buffer: &mut [u8],
+) {
+    if no_argument(rt, errors, P::NAME, P::USAGE, P::NONE_TAKEN) {
+        answer_input(program, rt, input, errors, buffer);
+    }
+}

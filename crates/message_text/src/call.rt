@@ -1,0 +1,78 @@
+// What a call broadcast.
+use crate::message::Spoken;
+use c_answers::CallAnswer;
+use parts::part;
+use std::io;
+
+// A call at base b of n, which had made so many broadcasts, whether the base stops by it, and what it answered.
+#[derive(Clone, Copy)]
+pub struct Call<'a> {
+    pub b: u8,
+    pub n: u8,
+    pub made: usize,
+    pub stops: bool,
+    pub answer: CallAnswer,
+    pub frames: &'a [u8],
+}
+
+impl<'a> Call<'a> {
+    // Its frame i of 1 to 3, empty where it broadcast fewer.
+    fn frame(&self, i: usize) -> &'a [u8] {
+        let CallAnswer { first, second, third, .. } = self.answer;
+        match i {
+            1 => part(self.frames, 0, first),
+            2 => part(self.frames, first, second),
+            _ => part(self.frames, first.saturating_add(second), third),
+        }
+    }
+
+    fn say_frame(&self, out: &impl Print, i: usize) -> io::Result<()> {
+        let burst = self.frame(i);
+        if burst.is_empty() {
+            return Ok(());
+        }
+        let number = self.made.saturating_add(i);
+        println!(out; "  base {} broadcasts {number}: {}", self.b, Spoken { n: self.n, burst })
+    }
+
+    // The two frames of a start.
+    pub fn say_start(&self, out: &impl Print) -> io::Result<()> {
+        println!(out; "  base {} starts", self.b)?;
+        self.say_frame(out, 1)?;
+        self.say_frame(out, 2)
+    }
+
+    // The frame behind those of a start: an idle base does not stop by its first message.
+    pub fn say_behind_start(&self, out: &impl Print) -> io::Result<()> {
+        self.say_frame(out, 3)
+    }
+
+    // Whether frame i is the last, behind the check: the Correct-Final of a base that stops.
+    fn is_last(&self, i: usize) -> bool {
+        let next = match i {
+            1 => self.answer.second,
+            2 => self.answer.third,
+            _ => 0,
+        };
+        self.stops && next == 0
+    }
+
+    // The frames before its check, or the last.
+    pub fn say_frames(&self, out: &impl Print, last: bool) -> io::Result<()> {
+        for i in 1..4 {
+            if self.is_last(i) == last {
+                self.say_frame(out, i)?;
+            }
+        }
+        Ok(())
+    }
+
+    // The slots of what it broadcast, where it broadcast something.
+    pub fn say_slots(&self, out: &impl Print) -> io::Result<()> {
+        let CallAnswer { first, own, relayed, .. } = self.answer;
+        if first == 0 {
+            return Ok(());
+        }
+        println!(out; "  base {}, slots of this line: own {own}, relayed {relayed}", self.b)
+    }
+}

@@ -1,9 +1,0 @@
--- The bases are counted up to n.
-use Prim.Native.Nat.{◌≤◌, ◌-◌}
-use Rattle.schedule_text.proofs.waits.itemise.Given as goal
-
-abbrev pub invariant-loop-a : goal.invariant-loop-a
-invariant-loop-a l = l.a ≤ l.n
-
-abbrev pub decreases-loop-a : goal.decreases-loop-a
-decreases-loop-a l = l.n - l.a

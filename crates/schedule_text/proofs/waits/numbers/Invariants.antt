@@ -1,9 +1,0 @@
--- The broadcasts are counted up to their number.
-use Prim.Native.Nat.{◌≤◌, ◌-◌}
-use Rattle.schedule_text.proofs.waits.numbers.Given as goal
-
-abbrev pub invariant-loop-k : goal.invariant-loop-k
-invariant-loop-k l = l.k ≤ l.count
-
-abbrev pub decreases-loop-k : goal.decreases-loop-k
-decreases-loop-k l = l.count - l.k
