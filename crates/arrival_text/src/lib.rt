@@ -15,8 +15,7 @@ use message_text::message::{Spoken, first_of};
 use numbering::link_at;
 use protocol::{Base, Link};
 use readings::read_numbers;
-use std::fmt;
-use std::io;
+use std::{fmt, io};
 
 // On which link a burst arrives, from which base or as if from it.
 #[derive(Clone, Copy)]
@@ -35,10 +34,20 @@ impl fmt::Display for Arrival {
     }
 }
 
-pub fn say_refused(out: &impl Print, b: u8, arrival: Arrival, burst: &[u8], refusal: u8) -> io::Result<()> {
+pub fn say_refused(
+    out: &impl Print,
+    b: u8,
+    arrival: Arrival,
+    burst: &[u8],
+    refusal: u8,
+) -> io::Result<()> {
     let bytes = if burst.len() == 1 { "byte" } else { "bytes" };
     print!(out; "  base {b} hears {} {bytes} {arrival}: ", burst.len())?;
-    println!(out; "refused by {refusal}, {}{}", meaning(refusal), Trailer { refusal, burst })
+    println!(out;
+        "refused by {refusal}, {}{}",
+        meaning(refusal),
+        Trailer { refusal, burst }
+    )
 }
 
 // A Correct-Final takes the place of the Verify-Final that its link held.
@@ -47,16 +56,29 @@ fn replaces(held: Link, kind: u8) -> bool {
 }
 
 // The message that was not refused.
-pub fn say_heard(out: &impl Print, b: u8, base: Base, arrival: Arrival, accepted: bool, burst: &[u8]) -> io::Result<()> {
+pub fn say_heard(
+    out: &impl Print,
+    b: u8,
+    base: Base,
+    arrival: Arrival,
+    accepted: bool,
+    burst: &[u8],
+) -> io::Result<()> {
     let n = base.n;
     let held = link_at(base, arrival.link);
     let taken = read_numbers(n as usize, burst);
     print!(out; "  base {b} hears {} {arrival}: ", Spoken { n, burst })?;
     if !accepted {
-        return println!(out; "discarded, {}", discarded_for(base, held, taken.kind, taken.ids[0]));
+        return println!(out;
+            "discarded, {}",
+            discarded_for(base, held, taken.kind, taken.ids[0])
+        );
     }
     if replaces(held, taken.kind) {
-        return println!(out; "accepted, in place of the link's Verify-Final of{}", first_of(&held.list, n as usize));
+        return println!(out;
+            "accepted, in place of the link's Verify-Final of{}",
+            first_of(&held.list, n as usize)
+        );
     }
     println!(out; "accepted")
 }

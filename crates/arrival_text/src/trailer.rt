@@ -17,17 +17,30 @@ impl fmt::Display for Trailer<'_> {
         match self.refusal {
             KIND => write!(f, " (kind {kind})"),
             COUNT => write!(f, " (kind {kind}, count {count})"),
-            BACK_DISTANCE => distance(f, u16::from_be_bytes([*high, *low]), *count, self.burst.len()),
+            BACK_DISTANCE => distance(
+                f,
+                u16::from_be_bytes([*high, *low]),
+                *count,
+                self.burst.len(),
+            ),
             _ => Ok(()),
         }
     }
 }
 
 // And what it should be; or the burst's length, which it exceeds.
-fn distance<W: fmt::Write>(f: &mut fmt::Formatter<W>, back: u16, count: u8, length: usize) -> fmt::Result {
+fn distance<W: fmt::Write>(
+    f: &mut fmt::Formatter<W>,
+    back: u16,
+    count: u8,
+    length: usize,
+) -> fmt::Result {
     let right = frame_bytes(count);
     if back as usize == right {
-        return write!(f, " (back distance {back}, and the burst has {length} bytes)");
+        return write!(
+            f,
+            " (back distance {back}, and the burst has {length} bytes)"
+        );
     }
     write!(f, " (back distance {back}, where {right} belongs)")
 }

@@ -19,9 +19,18 @@ use std::io;
 
 // The list and the leader of a base that stops.
 fn say_stop(out: &impl Print, b: u8, after: Base) -> io::Result<()> {
-    let Base { n, state, final_list, .. } = after;
+    let Base {
+        n,
+        state,
+        final_list,
+        ..
+    } = after;
     let word = if state == PRIME { "prime" } else { "secondary" };
-    println!(out; "  base {b} stops: {word}{} leader {}", first_of(&final_list, n as usize), leader_of(&final_list))
+    println!(out;
+        "  base {b} stops: {word}{} leader {}",
+        first_of(&final_list, n as usize),
+        leader_of(&final_list)
+    )
 }
 
 // The check that follows an accepted message, at a base that may have sent its Verify-Final before.
@@ -65,7 +74,13 @@ fn answered_first(out: &impl Print, call: Call, after: Base, burst: &[u8]) -> io
 }
 
 // What a message that was heard led to.
-fn answered_running(out: &impl Print, call: Call, sent: bool, after: Base, burst: &[u8]) -> io::Result<()> {
+fn answered_running(
+    out: &impl Print,
+    call: Call,
+    sent: bool,
+    after: Base,
+    burst: &[u8],
+) -> io::Result<()> {
     call.say_frames(out, false)?;
     if call.answer.outcome != ACCEPTED {
         return Ok(());
@@ -79,7 +94,14 @@ fn answered_running(out: &impl Print, call: Call, sent: bool, after: Base, burst
 }
 
 // A message that was not refused, at a base as it was before and after.
-fn arrived(out: &impl Print, call: Call, base: Base, after: Base, arrival: Arrival, burst: &[u8]) -> io::Result<()> {
+fn arrived(
+    out: &impl Print,
+    call: Call,
+    base: Base,
+    after: Base,
+    arrival: Arrival,
+    burst: &[u8],
+) -> io::Result<()> {
     let accepted = call.answer.outcome == ACCEPTED;
     if base.state == IDLE {
         call.say_start(out)?;
@@ -91,7 +113,14 @@ fn arrived(out: &impl Print, call: Call, base: Base, after: Base, arrival: Arriv
 }
 
 // A burst arrives at base b, which had made so many broadcasts.
-pub fn show_arrival(out: &impl Print, b: u8, base: Base, made: usize, arrival: Arrival, burst: &[u8]) -> io::Result<()> {
+pub fn show_arrival(
+    out: &impl Print,
+    b: u8,
+    base: Base,
+    made: usize,
+    arrival: Arrival,
+    burst: &[u8],
+) -> io::Result<()> {
     let mut frames = [0u8; OUTPUT_ROOM];
     let change = arrive(base, arrival.link, burst, &mut frames);
     let answer = outcome_numbers(change.outcome);

@@ -63,7 +63,9 @@ pub fn prime(out: &impl Print, b: u8, base: Base) -> io::Result<()> {
     let sum = tally_sum(base);
     let Base { n, t, state, .. } = base;
     let asked = sum_asked(n, t);
-    print!(out; "  base {b}, prime check: certified {certified}, {n} needed; sum {sum}, {asked} needed; ")?;
+    print!(out;
+        "  base {b}, prime check: certified {certified}, {n} needed; sum {sum}, {asked} needed; "
+    )?;
     println!(out; "suspects {suspected}, at most {t}; {}", verdict(state))?;
     // Every link has announced an identifier, and the sum is short all the same.
     let short = certified == n as usize && sum < asked;
@@ -72,9 +74,17 @@ pub fn prime(out: &impl Print, b: u8, base: Base) -> io::Result<()> {
 
 // Of a base that had sent its Verify-Final: the second Correct-Final of a list would have it send one. It sent that for another list, as a
 // base votes for a list with the second Correct-Final of it.
-pub fn sent_before(out: &impl Print, b: u8, base: Base, kind: u8, v: [u32; MOST_BASES]) -> io::Result<()> {
+pub fn sent_before(
+    out: &impl Print,
+    b: u8,
+    base: Base,
+    kind: u8,
+    v: [u32; MOST_BASES],
+) -> io::Result<()> {
     if kind == CORRECT_FINAL && correct_count(base, v) == 2 {
-        return println!(out; "  base {b} sends no Verify-Final: it has sent one before, of another list");
+        return println!(out;
+            "  base {b} sends no Verify-Final: it has sent one before, of another list"
+        );
     }
     Ok(())
 }

@@ -33,17 +33,40 @@ impl fmt::Display for FormCause<'_> {
         match *self {
             FormCause::FirstLine => write!(f, "the first line is `net n t`"),
             FormCause::Belongs(b) => write!(f, "here belongs the line of base {b}, `id b v`"),
-            FormCause::ByteOrderMark => write!(f, "a byte-order mark (\\xef\\xbb\\xbf) stands at the beginning"),
-            FormCause::Utf16 => write!(f, "the text is in UTF-16, and each sign of a line is one byte"),
+            FormCause::ByteOrderMark => write!(
+                f,
+                "a byte-order mark (\\xef\\xbb\\xbf) stands at the beginning"
+            ),
+            FormCause::Utf16 => write!(
+                f,
+                "the text is in UTF-16, and each sign of a line is one byte"
+            ),
             FormCause::Comment(i) => write!(f, "byte {i} is `#`, and a schedule has no comments"),
-            FormCause::CarriageReturn(i) => write!(f, "byte {i} is a carriage return (\\r), and only a line feed ends a line"),
-            FormCause::Tab(i) => write!(f, "byte {i} is a tab (\\t), and one space separates two words"),
-            FormCause::Control(byte) => write!(f, "{byte}, a control character, and a line has none"),
+            FormCause::CarriageReturn(i) => write!(
+                f,
+                "byte {i} is a carriage return (\\r), and only a line feed ends a line"
+            ),
+            FormCause::Tab(i) => write!(
+                f,
+                "byte {i} is a tab (\\t), and one space separates two words"
+            ),
+            FormCause::Control(byte) => write!(
+                f,
+                "{byte}, a control character, and a line has none"
+            ),
             FormCause::NotAscii(byte) => write!(f, "{byte}, and a line has signs of ASCII alone"),
             FormCause::NoLineFeed => write!(f, "no line feed stands at the end"),
             FormCause::SpaceTooMany(i) => write!(f, "byte {i} is a space too many"),
-            FormCause::SpaceAtEnd(i) => write!(f, "byte {i} is a space at the end of the line, where none may stand"),
-            FormCause::Missing(form, i) => write!(f, "{} is missing, and the form is `{}`", form.name(i), form.text()),
+            FormCause::SpaceAtEnd(i) => write!(
+                f,
+                "byte {i} is a space at the end of the line, where none may stand"
+            ),
+            FormCause::Missing(form, i) => write!(
+                f,
+                "{} is missing, and the form is `{}`",
+                form.name(i),
+                form.text()
+            ),
             FormCause::Empty => write!(f, "the line is empty"),
             FormCause::NoWord(word) => no_word(f, Quoted(word)),
             FormCause::NetAgain => write!(f, "the net is named in line 1"),

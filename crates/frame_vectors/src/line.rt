@@ -19,7 +19,9 @@ fn with_digit(value: usize, sign: u8) -> usize {
 
 // The number in a field.
 pub(crate) fn count(line: &[u8], i: usize) -> usize {
-    field(line, i).iter().fold(0, |value, sign| with_digit(value, *sign))
+    field(line, i)
+        .iter()
+        .fold(0, |value, sign| with_digit(value, *sign))
 }
 
 pub(crate) fn small(line: &[u8], i: usize) -> u8 {

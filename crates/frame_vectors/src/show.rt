@@ -1,8 +1,7 @@
 // What a call answers, a line each.
 use message_text::message::first_of;
 use reader::Reading;
-use std::fmt;
-use std::io;
+use std::{fmt, io};
 use writer::Written;
 
 // Bytes in hexadecimal.
@@ -33,7 +32,13 @@ pub(crate) fn reading(out: &impl Print, n: usize, burst: &[u8]) -> io::Result<()
 }
 
 // The answer of a write, and the output after it.
-pub(crate) fn written(out: &impl Print, n: usize, kind: u8, ids: &[u32], output: &mut [u8]) -> io::Result<()> {
+pub(crate) fn written(
+    out: &impl Print,
+    n: usize,
+    kind: u8,
+    ids: &[u32],
+    output: &mut [u8],
+) -> io::Result<()> {
     match writer::write(n, kind, ids, output) {
         Written::Frame(size) => print!(out; "length {} slots {} ", size.length, size.slots)?,
         Written::Refused(r) => print!(out; "refused {r} ")?,
@@ -42,8 +47,20 @@ pub(crate) fn written(out: &impl Print, n: usize, kind: u8, ids: &[u32], output:
 }
 
 // The sizes of two frames, and the output after them.
-pub(crate) fn two(out: &impl Print, kind: u8, next: u8, n: u8, ids: &[u32], output: &mut [u8]) -> io::Result<()> {
+pub(crate) fn two(
+    out: &impl Print,
+    kind: u8,
+    next: u8,
+    n: u8,
+    ids: &[u32],
+    output: &mut [u8],
+) -> io::Result<()> {
     let sizes = two_frames::put_two(kind, next, n, ids, output);
     print!(out; "lengths {} {} ", sizes.front.length, sizes.next.length)?;
-    println!(out; "slots {} {} {}", sizes.front.slots, sizes.next.slots, Hex(output))
+    println!(out;
+        "slots {} {} {}",
+        sizes.front.slots,
+        sizes.next.slots,
+        Hex(output)
+    )
 }

@@ -14,9 +14,11 @@ struct Hillfaults;
 impl Program for Hillfaults {
     const NAME: &'static str = "hillfaults";
 
-    const USAGE: &'static str = "prints each set of links that can be faulty in the net of line 1, `net n t`, up to 6 bases";
+    const USAGE: &'static str =
+        "prints each set of links that can be faulty in the net of line 1, `net n t`, up to 6 bases";
 
-    const NONE_TAKEN: &'static str = "`net n t`, or a schedule that begins with it, is read from standard input";
+    const NONE_TAKEN: &'static str =
+        "`net n t`, or a schedule that begins with it, is read from standard input";
 
     // Writes the lines.
     fn answer(&self, out: &impl Print, schedule: &[u8]) -> io::Result<()> {
@@ -29,5 +31,11 @@ impl Program for Hillfaults {
 fn main(rt: HostRuntime) {
     // The input is read to its end; what the first line cannot reach is not kept.
     let mut schedule = [0u8; LONGEST_SCHEDULE];
-    run(&Hillfaults, &rt, &mut rt.stdin(), &rt.stderr(), &mut schedule);
+    run(
+        &Hillfaults,
+        &rt,
+        &mut rt.stdin(),
+        &rt.stderr(),
+        &mut schedule,
+    );
 }

@@ -14,9 +14,11 @@ struct Hillreplay;
 impl Program for Hillreplay {
     const NAME: &'static str = "hillreplay";
 
-    const USAGE: &'static str = "prints the report of the schedule; hilltrace < SCHEDULE says why a line is refused";
+    const USAGE: &'static str =
+        "prints the report of the schedule; hilltrace < SCHEDULE says why a line is refused";
 
-    const NONE_TAKEN: &'static str = "the schedule is read from standard input; hilltrace says why a line is refused";
+    const NONE_TAKEN: &'static str =
+        "the schedule is read from standard input; hilltrace says why a line is refused";
 
     // Writes the report.
     fn answer(&self, out: &impl Print, schedule: &[u8]) -> io::Result<()> {
@@ -29,5 +31,11 @@ impl Program for Hillreplay {
 fn main(rt: HostRuntime) {
     // One byte more than a schedule may have, so that a longer one is seen.
     let mut schedule = [0u8; LONGEST_SCHEDULE + 1];
-    run(&Hillreplay, &rt, &mut rt.stdin(), &rt.stderr(), &mut schedule);
+    run(
+        &Hillreplay,
+        &rt,
+        &mut rt.stdin(),
+        &rt.stderr(),
+        &mut schedule,
+    );
 }

@@ -31,5 +31,11 @@ impl Program for Hilltrace {
 fn main(rt: HostRuntime) {
     // One byte more than a schedule may have, so that a longer one is seen.
     let mut schedule = [0u8; LONGEST_SCHEDULE + 1];
-    run(&Hilltrace, &rt, &mut rt.stdin(), &rt.stderr(), &mut schedule);
+    run(
+        &Hilltrace,
+        &rt,
+        &mut rt.stdin(),
+        &rt.stderr(),
+        &mut schedule,
+    );
 }

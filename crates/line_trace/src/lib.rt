@@ -19,9 +19,20 @@ use parts::part;
 use std::io;
 
 // A burst of base a at base b.
-fn arrives(out: &impl Print, net: StoredNet, a: u8, b: u8, forged: bool, burst: &[u8]) -> io::Result<()> {
+fn arrives(
+    out: &impl Print,
+    net: StoredNet,
+    a: u8,
+    b: u8,
+    forged: bool,
+    burst: &[u8],
+) -> io::Result<()> {
     let node = node_at(net, b);
-    let arrival = Arrival { from: a, link: link_to(b, a), forged };
+    let arrival = Arrival {
+        from: a,
+        link: link_to(b, a),
+        forged,
+    };
     show_arrival(out, b, node.base, node.count, arrival, burst)
 }
 
@@ -39,9 +50,20 @@ fn show_doing(out: &impl Print, s: &[u8], net: StoredNet) -> io::Result<()> {
             let node = node_at(net, base);
             show_start(out, base, node.base, node.count)
         }
-        Line::Carry { from, to, number, .. } => carried(out, net, from, to, number as usize),
+        Line::Carry {
+            from,
+            to,
+            number,
+            ..
+        } => carried(out, net, from, to, number as usize),
         // The bytes of a forgery stand in the schedule.
-        Line::Forge { from, to, at, count, .. } => {
+        Line::Forge {
+            from,
+            to,
+            at,
+            count,
+            ..
+        } => {
             let bytes = hex_array(s, at, count);
             arrives(out, net, from, to, true, part(&bytes, 0, count))
         }

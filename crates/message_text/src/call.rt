@@ -18,7 +18,12 @@ pub struct Call<'a> {
 impl<'a> Call<'a> {
     // Its frame i of 1 to 3, empty where it broadcast fewer.
     fn frame(&self, i: usize) -> &'a [u8] {
-        let CallAnswer { first, second, third, .. } = self.answer;
+        let CallAnswer {
+            first,
+            second,
+            third,
+            ..
+        } = self.answer;
         match i {
             1 => part(self.frames, 0, first),
             2 => part(self.frames, first, second),
@@ -32,7 +37,11 @@ impl<'a> Call<'a> {
             return Ok(());
         }
         let number = self.made.saturating_add(i);
-        println!(out; "  base {} broadcasts {number}: {}", self.b, Spoken { n: self.n, burst })
+        println!(out;
+            "  base {} broadcasts {number}: {}",
+            self.b,
+            Spoken { n: self.n, burst }
+        )
     }
 
     // The two frames of a start.
@@ -69,10 +78,18 @@ impl<'a> Call<'a> {
 
     // The slots of what it broadcast, where it broadcast something.
     pub fn say_slots(&self, out: &impl Print) -> io::Result<()> {
-        let CallAnswer { first, own, relayed, .. } = self.answer;
+        let CallAnswer {
+            first,
+            own,
+            relayed,
+            ..
+        } = self.answer;
         if first == 0 {
             return Ok(());
         }
-        println!(out; "  base {}, slots of this line: own {own}, relayed {relayed}", self.b)
+        println!(out;
+            "  base {}, slots of this line: own {own}, relayed {relayed}",
+            self.b
+        )
     }
 }

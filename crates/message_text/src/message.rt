@@ -40,6 +40,11 @@ pub struct Spoken<'a> {
 impl fmt::Display for Spoken<'_> {
     fn fmt<W: fmt::Write>(&self, f: &mut fmt::Formatter<W>) -> fmt::Result {
         let taken = read_numbers(self.n as usize, self.burst);
-        write!(f, "{}{}", kind_word(taken.kind), first_of(&taken.ids, taken.count))
+        write!(
+            f,
+            "{}{}",
+            kind_word(taken.kind),
+            first_of(&taken.ids, taken.count)
+        )
     }
 }

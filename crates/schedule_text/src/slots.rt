@@ -6,7 +6,10 @@ use std::io;
 
 // `slots of base 2: own 4, relayed 1, together 5`
 fn say_sums(out: &impl Print, Slots { own, relayed }: Slots) -> io::Result<()> {
-    println!(out; ": own {own}, relayed {relayed}, together {}", own.saturating_add(relayed))
+    println!(out;
+        ": own {own}, relayed {relayed}, together {}",
+        own.saturating_add(relayed)
+    )
 }
 
 fn sum_of(all: Slots, more: Slots) -> Slots {

@@ -13,7 +13,15 @@ pub fn missing_verifies(out: &impl Print, b: u8, base: Base) -> io::Result<()> {
         let link = link_at(base, i);
         if lacks(link, link.announce) {
             if named < NAMED {
-                print!(out; "{}{}", separator(named), Lacking { b, i, g: link.announce })?;
+                print!(out;
+                    "{}{}",
+                    separator(named),
+                    Lacking {
+                        b,
+                        i,
+                        g: link.announce
+                    }
+                )?;
             }
             named = named.saturating_add(1);
         }

@@ -5,8 +5,7 @@ use held_lists::holds_verify;
 use limits::{MOST_FAULTY, MOST_LINKS};
 use numbering::{base_at, link_at};
 use protocol::{Base, Link};
-use std::fmt;
-use std::io;
+use std::{fmt, io};
 
 // Pairs that are named: as many as t can be, and the one that is too many.
 pub(crate) const NAMED: usize = MOST_FAULTY + 1;
@@ -26,7 +25,13 @@ pub(crate) struct Lacking {
 
 impl fmt::Display for Lacking {
     fn fmt<W: fmt::Write>(&self, f: &mut fmt::Formatter<W>) -> fmt::Result {
-        write!(f, "link {} from base {} lacks Verify {}", self.i, far_end(self.b, self.i), self.g)
+        write!(
+            f,
+            "link {} from base {} lacks Verify {}",
+            self.i,
+            far_end(self.b, self.i),
+            self.g
+        )
     }
 }
 
@@ -75,7 +80,12 @@ fn own_pair(b: u8, base: Base, i: usize) -> Option<Pair> {
         return None;
     }
     let first = Some(Lacking { b, i, g: base.own });
-    Some(Pair { g: base.own, h: link.announce, first, second: None })
+    Some(Pair {
+        g: base.own,
+        h: link.announce,
+        first,
+        second: None,
+    })
 }
 
 // The identifiers of links i and j.
@@ -88,14 +98,23 @@ fn link_pair(b: u8, base: Base, i: usize, j: usize) -> Option<Pair> {
     if !has_announce(one) || !has_announce(other) || first.or(second).is_none() {
         return None;
     }
-    Some(Pair { g, h, first, second })
+    Some(Pair {
+        g,
+        h,
+        first,
+        second,
+    })
 }
 
 // The pairs of link i with the own identifier, as j = 0, and with the links before it. Answers how many pairs there are by now.
 fn pairs_of(out: &impl Print, b: u8, base: Base, i: usize, before: usize) -> io::Result<usize> {
     let mut named = before;
     for j in 0..i {
-        let pair = if j == 0 { own_pair(b, base, i) } else { link_pair(b, base, j, i) };
+        let pair = if j == 0 {
+            own_pair(b, base, i)
+        } else {
+            link_pair(b, base, j, i)
+        };
         if let Some(pair) = pair {
             if named < NAMED {
                 print!(out; "{}{pair}", separator(named))?;
