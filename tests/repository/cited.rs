@@ -22,8 +22,8 @@ struct Known {
 pub fn check() -> Result<String, Vec<String>> {
     let known = known().map_err(|error| vec![error])?;
     let readme = File { path: "README.md".to_string(), text: text_of("README.md").map_err(|error| vec![error])? };
-    // those two tell of older names and files
-    let told = ["docs/CHANGES.md", "docs/PORT.md"];
+    // those tell of older names and files, and of what has not landed
+    let told = ["docs/CHANGES.md", "docs/DESIGN-PASS.md", "docs/PORT.md"];
     let pages = below("docs", ".md").into_iter().chain([readme]).filter(|page| !told.contains(&page.path.as_str()));
     let (mut cited, mut wrong) = (0, BTreeSet::new());
     for page in pages {

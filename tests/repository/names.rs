@@ -1,6 +1,7 @@
 //! One name a thing: no definition, lemma, struct, enum or function of the crates has the name of another, public or not, and no public
-//! constant that of another. Fields and constructors do not count, nor what is private in an anonymous module, nor a program's `main`. A
-//! public function that has a definition's name cites that definition. An exported function that only hands on to a library's has its name.
+//! constant that of another. Fields and constructors do not count, nor what is private in an anonymous module, nor a program's `main`, nor
+//! a trait's methods, whose names the trait gives. A public function that has a definition's name cites that definition. An exported
+//! function that only hands on to a library's has its name.
 
 use crate::antt::modules;
 use crate::believed::type_name;
@@ -21,6 +22,7 @@ pub fn check() -> Result<String, Vec<String>> {
     }
     let mut wrong = Vec::new();
     for file in below("crates", ".rt") {
+        let of_trait = lines_of_traits(&file.text);
         for (i, line) in file.text.lines().enumerate() {
             let place = || format!("{}:{}", below_crates(&file.path), i + 1);
             let put = |places: &mut Places, name: Option<&str>| {
@@ -30,7 +32,7 @@ pub fn check() -> Result<String, Vec<String>> {
             };
             put(&mut things, type_name(line));
             put(&mut constants, constant_name(line));
-            put(&mut functions, function_name(line).filter(|name| !hands_on(line, name, &file.text)));
+            put(&mut functions, function_name(line).filter(|name| !of_trait[i] && !hands_on(line, name, &file.text)));
             let public = function_name(line).filter(|_| line.starts_with("pub fn ") || line.starts_with("pub extern "));
             let other = public.filter(|name| definitions.contains(in_antt(name)) && !cites(&file.text, name, in_antt(name)));
             wrong.extend(other.map(|name| format!("{name} at {} has the name of a definition that it does not cite", place())));
@@ -47,6 +49,19 @@ pub fn check() -> Result<String, Vec<String>> {
         )),
         false => Err(wrong),
     }
+}
+
+/// Which lines stand in `pub trait NAME {` or `impl TRAIT for TYPE {`.
+fn lines_of_traits(text: &str) -> Vec<bool> {
+    let mut inside = false;
+    let begins = |line: &str| line.starts_with("pub trait ") || (line.starts_with("impl") && line.contains(" for "));
+    let each = text.lines().map(|line| {
+        if !line.is_empty() && !line.starts_with(' ') {
+            inside = begins(line);
+        }
+        inside
+    });
+    each.collect()
 }
 
 /// `fn NAME(`, `pub(crate) fn NAME<`, `pub extern "C" fn NAME(`

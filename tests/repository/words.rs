@@ -27,7 +27,7 @@ pub fn check() -> Result<String, Vec<String>> {
     let sources = [
         ("include/roster.h", header(), table.len()),
         ("crates/limits/src/refusal.rt", constants(), table.len()),
-        ("the trace", rows_of("crates/cause_text/src/meanings.rt"), OF_A_SCHEDULE),
+        ("the trace", arms("crates/cause_text/src/meanings.rt"), OF_A_SCHEDULE),
         ("the picture", arms("tools/hillpicture/refusals.rs"), 9),
     ];
     for (source, said, fewest) in sources {
@@ -131,20 +131,12 @@ fn constants() -> Result<Vec<Said>, String> {
     Ok(found)
 }
 
-/// The rows of the constant `MEANINGS`, behind an empty one a row a number.
-fn rows_of(file: &str) -> Result<Vec<Said>, String> {
-    let text = text_of(file)?;
-    let rows = text.split_once("const MEANINGS").and_then(|(_, rest)| rest.split('"').nth(1)).unwrap_or_default();
-    let numbered = rows.trim_end().split('\n').enumerate().skip(1);
-    Ok(numbered.map(|(number, words)| Said { number: Some(number), name: String::new(), words: plain(words) }).collect())
-}
-
 /// `7 => .. "words" ..`
 fn arms(file: &str) -> Result<Vec<Said>, String> {
     let text = text_of(file)?;
     let mut found = Vec::new();
     for (key, rest) in text.lines().filter_map(|line| line.trim_start().split_once(" => ")) {
-        let Some(words) = rest.split('"').nth(1) else { continue };
+        let Some(words) = rest.split('"').nth(1).filter(|words| !words.is_empty()) else { continue };
         found.push(Said { number: key.parse().ok(), name: String::new(), words: plain(words) });
     }
     Ok(found)

@@ -8,10 +8,10 @@ mod trailer;
 
 use crate::reason::discarded_for;
 use crate::trailer::Trailer;
-use cause_text::meanings::meaning;
+use cause_text::meanings::number_meaning;
 use frame::kind::CORRECT_FINAL;
 use held::HELD_VERIFY_FINAL;
-use message_text::message::{Spoken, first_of};
+use message_text::message::{BurstMessage, first_identifiers};
 use numbering::link_at;
 use protocol::{Base, Link};
 use readings::read_numbers;
@@ -45,7 +45,7 @@ pub fn say_refused(
     print!(out; "  base {b} hears {} {bytes} {arrival}: ", burst.len())?;
     println!(out;
         "refused by {refusal}, {}{}",
-        meaning(refusal),
+        number_meaning(refusal),
         Trailer { refusal, burst }
     )
 }
@@ -67,7 +67,10 @@ pub fn say_heard(
     let n = base.n;
     let held = link_at(base, arrival.link);
     let taken = read_numbers(n as usize, burst);
-    print!(out; "  base {b} hears {} {arrival}: ", Spoken { n, burst })?;
+    print!(out;
+        "  base {b} hears {} {arrival}: ",
+        BurstMessage { n, burst }
+    )?;
     if !accepted {
         return println!(out;
             "discarded, {}",
@@ -77,7 +80,7 @@ pub fn say_heard(
     if replaces(held, taken.kind) {
         return println!(out;
             "accepted, in place of the link's Verify-Final of{}",
-            first_of(&held.list, n as usize)
+            first_identifiers(&held.list, n as usize)
         );
     }
     println!(out; "accepted")

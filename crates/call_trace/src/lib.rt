@@ -10,8 +10,8 @@ use change::changed_base;
 use frame::kind::CORRECT_FINAL;
 use leader_rule::leader_of;
 use limits::OUTPUT_ROOM;
-use message_text::call::Call;
-use message_text::message::first_of;
+use message_text::call::BaseCall;
+use message_text::message::first_identifiers;
 use protocol::{Base, IDLE, PRIME};
 use readings::read_numbers;
 use starting::start;
@@ -28,7 +28,7 @@ fn say_stop(out: &impl Print, b: u8, after: Base) -> io::Result<()> {
     let word = if state == PRIME { "prime" } else { "secondary" };
     println!(out;
         "  base {b} stops: {word}{} leader {}",
-        first_of(&final_list, n as usize),
+        first_identifiers(&final_list, n as usize),
         leader_of(&final_list)
     )
 }
@@ -52,7 +52,7 @@ pub fn show_start(out: &impl Print, b: u8, base: Base, made: usize) -> io::Resul
     }
     let mut frames = [0u8; OUTPUT_ROOM];
     let change = start(base, &mut frames);
-    let call = Call {
+    let call = BaseCall {
         b,
         n: base.n,
         made,
@@ -65,7 +65,7 @@ pub fn show_start(out: &impl Print, b: u8, base: Base, made: usize) -> io::Resul
 }
 
 // What a message led to that an idle base heard first.
-fn answered_first(out: &impl Print, call: Call, after: Base, burst: &[u8]) -> io::Result<()> {
+fn answered_first(out: &impl Print, call: BaseCall, after: Base, burst: &[u8]) -> io::Result<()> {
     call.say_behind_start(out)?;
     if call.answer.outcome == ACCEPTED {
         checked(out, call.b, false, after, burst)?;
@@ -76,7 +76,7 @@ fn answered_first(out: &impl Print, call: Call, after: Base, burst: &[u8]) -> io
 // What a message that was heard led to.
 fn answered_running(
     out: &impl Print,
-    call: Call,
+    call: BaseCall,
     sent: bool,
     after: Base,
     burst: &[u8],
@@ -96,7 +96,7 @@ fn answered_running(
 // A message that was not refused, at a base as it was before and after.
 fn arrived(
     out: &impl Print,
-    call: Call,
+    call: BaseCall,
     base: Base,
     after: Base,
     arrival: Arrival,
@@ -128,7 +128,7 @@ pub fn show_arrival(
         return say_refused(out, b, arrival, burst, answer.refusal);
     }
     let after = changed_base(base, change);
-    let call = Call {
+    let call = BaseCall {
         b,
         n: after.n,
         made,

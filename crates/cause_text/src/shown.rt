@@ -12,9 +12,9 @@ const LAST: usize = 20;
 
 // Every byte, or the first and the last of a line that is long. Of a schedule that is too long no more is read than shows that it is.
 #[derive(Clone, Copy)]
-struct Seen<'a>(&'a [u8]);
+struct Shown<'a>(&'a [u8]);
 
-impl fmt::Display for Seen<'_> {
+impl fmt::Display for Shown<'_> {
     fn fmt<W: fmt::Write>(&self, f: &mut fmt::Formatter<W>) -> fmt::Result {
         let bytes = self.0;
         if bytes.len() <= SHOWN {
@@ -50,7 +50,7 @@ pub struct WholeLine<'a>(pub &'a [u8]);
 
 impl fmt::Display for WholeLine<'_> {
     fn fmt<W: fmt::Write>(&self, f: &mut fmt::Formatter<W>) -> fmt::Result {
-        write!(f, "{}{}", Seen(self.0), Size(self.0.len()))
+        write!(f, "{}{}", Shown(self.0), Size(self.0.len()))
     }
 }
 
@@ -59,28 +59,28 @@ pub struct Quoted<'a>(pub &'a [u8]);
 
 impl fmt::Display for Quoted<'_> {
     fn fmt<W: fmt::Write>(&self, f: &mut fmt::Formatter<W>) -> fmt::Result {
-        write!(f, "`{}`{}", Seen(self.0), Size(self.0.len()))
+        write!(f, "`{}`{}", Shown(self.0), Size(self.0.len()))
     }
 }
 
 // A field by its name and as it stands.
 #[derive(Clone, Copy)]
-pub struct Named<'a> {
+pub struct NamedField<'a> {
     name: &'static str,
     bytes: &'a [u8],
 }
 
-impl<'a> Named<'a> {
+impl<'a> NamedField<'a> {
     // Field i of a line of that form.
-    pub fn of_line(form: Form, line: &'a [u8], i: usize) -> Named<'a> {
-        Named {
+    pub fn in_line(form: Form, line: &'a [u8], i: usize) -> NamedField<'a> {
+        NamedField {
             name: form.name(i),
             bytes: field(line, i),
         }
     }
 }
 
-impl fmt::Display for Named<'_> {
+impl fmt::Display for NamedField<'_> {
     fn fmt<W: fmt::Write>(&self, f: &mut fmt::Formatter<W>) -> fmt::Result {
         write!(f, "{} is {}", self.name, Quoted(self.bytes))
     }
@@ -88,12 +88,12 @@ impl fmt::Display for Named<'_> {
 
 // A byte of a line, by its number from 1 and as it stands.
 #[derive(Clone, Copy)]
-pub struct Numbered {
+pub struct NumberedByte {
     pub number: usize,
     pub byte: u8,
 }
 
-impl fmt::Display for Numbered {
+impl fmt::Display for NumberedByte {
     fn fmt<W: fmt::Write>(&self, f: &mut fmt::Formatter<W>) -> fmt::Result {
         write!(f, "byte {} is {}", self.number, Quoted(&[self.byte]))
     }
@@ -101,9 +101,9 @@ impl fmt::Display for Numbered {
 
 // `1 field`, `2 fields`
 #[derive(Clone, Copy)]
-pub struct Counted(pub usize, pub &'static str);
+pub struct CountOf(pub usize, pub &'static str);
 
-impl fmt::Display for Counted {
+impl fmt::Display for CountOf {
     fn fmt<W: fmt::Write>(&self, f: &mut fmt::Formatter<W>) -> fmt::Result {
         write!(f, "{} {}", self.0, self.1)?;
         if self.0 != 1 {

@@ -8,7 +8,7 @@ mod numbers;
 
 use crate::cause::Cause;
 use crate::numbers::number_cause;
-use cause_text::meanings::meaning;
+use cause_text::meanings::number_meaning;
 use cause_text::shown::WholeLine;
 use field_causes::{FieldCause, field_cause, hex_hint, line_of_base};
 use form_causes::{belongs, byte_cause, space_cause, word_cause};
@@ -86,7 +86,7 @@ pub fn explain(out: &impl Print, s: &[u8], refused: &RefusedLine) -> io::Result<
     println!(out;
         "  refused by {}, {}",
         refused.refusal,
-        meaning(refused.refusal)
+        number_meaning(refused.refusal)
     )?;
     let Some(cause) = cause_of(s, line, refused) else {
         return Ok(());

@@ -1,6 +1,6 @@
 // The causes of numbers 1 to 3 and 14 to 18.
 use crate::RefusedLine;
-use cause_text::shown::{Counted, Named};
+use cause_text::shown::{CountOf, NamedField};
 use field_causes::alike::first_alike;
 use limits::{most_faulty, refusal};
 use line_fields::forms::Form;
@@ -9,16 +9,16 @@ use std::fmt;
 
 #[derive(Clone, Copy)]
 pub(crate) enum NumberCause<'a> {
-    WrongNumber(Named<'a>),
+    WrongNumber(NamedField<'a>),
     // The limit.
-    AboveLimit(Named<'a>, usize),
+    AboveLimit(NamedField<'a>, usize),
     IdentifierZero,
     // The line that has it.
     IdentifierAgain(usize),
     // How many links may be named.
     TooManyFaulty(usize),
     // How many the base has broadcast.
-    TooFewBroadcasts(Named<'a>, usize),
+    TooFewBroadcasts(NamedField<'a>, usize),
     // The line that is the same.
     CarryAgain(usize),
     // The bases of the link.
@@ -41,7 +41,7 @@ impl fmt::Display for NumberCause<'_> {
             NumberCause::TooFewBroadcasts(field, count) => too_few(
                 f,
                 field,
-                Counted(count, "message"),
+                CountOf(count, "message"),
             ),
             NumberCause::CarryAgain(line) => write!(f, "line {line} is that carry"),
             NumberCause::GoodLink(a, b) => write!(f, "the header has no line `faulty {a} {b}`"),
@@ -51,8 +51,8 @@ impl fmt::Display for NumberCause<'_> {
 
 fn too_few<W: fmt::Write>(
     f: &mut fmt::Formatter<W>,
-    field: Named<'_>,
-    messages: Counted,
+    field: NamedField<'_>,
+    messages: CountOf,
 ) -> fmt::Result {
     write!(
         f,
@@ -75,16 +75,16 @@ fn carry_again<'a>(s: &[u8], line: &'a [u8]) -> NumberCause<'a> {
 }
 
 fn wrong_number<'a>(line: &'a [u8]) -> NumberCause<'a> {
-    NumberCause::WrongNumber(Named::of_line(Form::Net, line, 1))
+    NumberCause::WrongNumber(NamedField::in_line(Form::Net, line, 1))
 }
 
 fn above_limit<'a>(line: &'a [u8]) -> NumberCause<'a> {
     let most = most_faulty(value(line, 1));
-    NumberCause::AboveLimit(Named::of_line(Form::Net, line, 2), most)
+    NumberCause::AboveLimit(NamedField::in_line(Form::Net, line, 2), most)
 }
 
 fn too_few_broadcasts<'a>(line: &'a [u8], count: usize) -> NumberCause<'a> {
-    NumberCause::TooFewBroadcasts(Named::of_line(Form::Carry, line, 1), count)
+    NumberCause::TooFewBroadcasts(NamedField::in_line(Form::Carry, line, 1), count)
 }
 
 pub(crate) fn number_cause<'a>(s: &[u8], line: &'a [u8], refused: &RefusedLine) -> NumberCause<'a> {

@@ -7,7 +7,7 @@ use correct_finals::correct_count;
 use counted_links::links_in;
 use frame::kind::CORRECT_FINAL;
 use limits::MOST_BASES;
-use message_text::message::first_of;
+use message_text::message::first_identifiers;
 use numbering::link_at;
 use protocol::{Base, PRIME, SECONDARY};
 use std::io;
@@ -93,7 +93,7 @@ pub fn sent_before(
 pub fn secondary(out: &impl Print, b: u8, base: Base, v: [u32; MOST_BASES]) -> io::Result<()> {
     let Base { n, t, state, .. } = base;
     let (tally, needed, correct) = (list_tally(base, v), t as usize + 1, correct_count(base, v));
-    let list = first_of(&v, n as usize);
+    let list = first_identifiers(&v, n as usize);
     print!(out; "  base {b}, secondary check of{list}: tally {tally}, {needed} needed; ")?;
     println!(out; "Correct-Finals {correct}, 2 needed; {}", verdict(state))
 }

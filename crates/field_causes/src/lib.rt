@@ -7,7 +7,7 @@ mod cause;
 
 use crate::alike::first_alike;
 pub use crate::cause::FieldCause;
-use cause_text::shown::{Named, Numbered};
+use cause_text::shown::{NamedField, NumberedByte};
 use limits::LONGEST_FORGERY;
 use line_fields::forms::Form;
 use line_fields::line::{field, fields_from, value};
@@ -17,7 +17,7 @@ use text::number::{Number, number_at};
 // What keeps a field that is there from being a decimal number without leading zeros, at most 4,294,967,295.
 fn decimal_cause<'a>(form: Form, line: &'a [u8], i: usize) -> Option<FieldCause<'a>> {
     let digits = field(line, i);
-    let named = Named::of_line(form, line, i);
+    let named = NamedField::in_line(form, line, i);
     if digits.iter().any(|b| !b.is_ascii_digit()) {
         return Some(FieldCause::NotDigits(named));
     }
@@ -45,7 +45,7 @@ pub fn hex_hint<'a>(form: Form, line: &'a [u8], n: usize) -> Option<FieldCause<'
         return Some(FieldCause::HexTogether(place.saturating_add(1)));
     }
     if spaces(line) == 2 && in_net(line, 2, n) {
-        return Some(FieldCause::SpaceBeforeHex);
+        return Some(FieldCause::Said("the space before hex stands even where there are no bytes"));
     }
     None
 }
@@ -60,8 +60,8 @@ fn hex_digit_cause<'a>(line: &'a [u8]) -> Option<FieldCause<'a>> {
     let before = line.len().saturating_sub(digits.len());
     let number = before.saturating_add(place).saturating_add(1);
     Some(match byte {
-        b'A'..=b'F' => FieldCause::CapitalHex(Numbered { number, byte }),
-        _ => FieldCause::NotHex(Numbered { number, byte }),
+        b'A'..=b'F' => FieldCause::CapitalHex(NumberedByte { number, byte }),
+        _ => FieldCause::NotHex(NumberedByte { number, byte }),
     })
 }
 
@@ -87,21 +87,21 @@ fn base_cause<'a>(form: Form, line: &'a [u8], i: usize, n: usize) -> Option<Fiel
     if in_net(line, i, n) {
         return None;
     }
-    Some(FieldCause::NoBase(Named::of_line(form, line, i), n))
+    Some(FieldCause::NoBase(NamedField::in_line(form, line, i), n))
 }
 
 // Two different bases of the net.
 fn bases<'a>(form: Form, line: &'a [u8], n: usize) -> Option<FieldCause<'a>> {
     let both = base_cause(form, line, 1, n).or(base_cause(form, line, 2, n));
     if value(line, 1) == value(line, 2) {
-        return both.or(Some(FieldCause::SameBase));
+        return both.or(Some(FieldCause::Said("a and b are the same base")));
     }
     both
 }
 
 fn faulty<'a>(s: &[u8], line: &'a [u8]) -> FieldCause<'a> {
     if value(line, 2) < value(line, 1) {
-        return FieldCause::LargerFirst;
+        return FieldCause::Said("a is above b, and the smaller base comes first");
     }
     FieldCause::LinkAgain(first_alike(s, line, 0))
 }
@@ -121,7 +121,7 @@ pub fn line_of_base<'a>(line: &'a [u8], number: usize) -> Option<FieldCause<'a>>
 
 // In the header, or behind it.
 fn id<'a>(line: &'a [u8], number: usize, n: usize) -> Option<FieldCause<'a>> {
-    let named = Named::of_line(Form::Id, line, 1);
+    let named = NamedField::in_line(Form::Id, line, 1);
     if number <= n.saturating_add(1) {
         return Some(FieldCause::OtherBase(named, number.saturating_sub(1)));
     }
@@ -142,7 +142,9 @@ fn together<'a>(
         Form::Id => id(line, number, n),
         Form::Faulty => bases(form, line, n).or(Some(faulty(s, line))),
         Form::Start => base_cause(form, line, 1, n),
-        Form::Carry => bases(form, line, n).or(Some(FieldCause::NumberZero)),
+        Form::Carry => bases(form, line, n).or(Some(FieldCause::Said(
+            "k is 0, and broadcasts are numbered from 1",
+        ))),
         Form::Forge => bases(form, line, n),
     }
 }

@@ -1,78 +1,61 @@
 // What breaks a line's form, in words.
-use cause_text::shown::{Numbered, Quoted};
+use cause_text::shown::{NumberedByte, Quoted};
 use line_fields::forms::Form;
 use std::fmt;
 
-// A number is that of a byte of the line, or as it is named.
+// A number is that of a byte of the line, or of what is named.
 #[derive(Clone, Copy)]
 pub enum FormCause<'a> {
-    FirstLine,
+    Said(&'static str),
     // The base.
     Belongs(usize),
-    ByteOrderMark,
-    Utf16,
     Comment(usize),
     CarriageReturn(usize),
     Tab(usize),
-    Control(Numbered),
-    NotAscii(Numbered),
-    NoLineFeed,
+    Control(NumberedByte),
+    NotAscii(NumberedByte),
     SpaceTooMany(usize),
     SpaceAtEnd(usize),
     // The field.
     Missing(Form, usize),
-    Empty,
     // The word.
     NoWord(&'a [u8]),
-    NetAgain,
-    FaultyLate,
 }
 
 impl fmt::Display for FormCause<'_> {
     fn fmt<W: fmt::Write>(&self, f: &mut fmt::Formatter<W>) -> fmt::Result {
         match *self {
-            FormCause::FirstLine => write!(f, "the first line is `net n t`"),
-            FormCause::Belongs(b) => write!(f, "here belongs the line of base {b}, `id b v`"),
-            FormCause::ByteOrderMark => write!(
-                f,
-                "a byte-order mark (\\xef\\xbb\\xbf) stands at the beginning"
-            ),
-            FormCause::Utf16 => write!(
-                f,
-                "the text is in UTF-16, and each sign of a line is one byte"
-            ),
-            FormCause::Comment(i) => write!(f, "byte {i} is `#`, and a schedule has no comments"),
-            FormCause::CarriageReturn(i) => write!(
+            Self::Said(words) => write!(f, "{words}"),
+            Self::Belongs(b) => write!(f, "here belongs the line of base {b}, `id b v`"),
+            Self::Comment(i) => write!(f, "byte {i} is `#`, and a schedule has no comments"),
+            Self::CarriageReturn(i) => write!(
                 f,
                 "byte {i} is a carriage return (\\r), and only a line feed ends a line"
             ),
-            FormCause::Tab(i) => write!(
+            Self::Tab(i) => write!(
                 f,
                 "byte {i} is a tab (\\t), and one space separates two words"
             ),
-            FormCause::Control(byte) => write!(
-                f,
-                "{byte}, a control character, and a line has none"
-            ),
-            FormCause::NotAscii(byte) => write!(f, "{byte}, and a line has signs of ASCII alone"),
-            FormCause::NoLineFeed => write!(f, "no line feed stands at the end"),
-            FormCause::SpaceTooMany(i) => write!(f, "byte {i} is a space too many"),
-            FormCause::SpaceAtEnd(i) => write!(
+            Self::Control(byte) => write!(f, "{byte}, a control character, and a line has none"),
+            Self::NotAscii(byte) => write!(f, "{byte}, and a line has signs of ASCII alone"),
+            Self::SpaceTooMany(i) => write!(f, "byte {i} is a space too many"),
+            Self::SpaceAtEnd(i) => write!(
                 f,
                 "byte {i} is a space at the end of the line, where none may stand"
             ),
-            FormCause::Missing(form, i) => write!(
-                f,
-                "{} is missing, and the form is `{}`",
-                form.name(i),
-                form.text()
-            ),
-            FormCause::Empty => write!(f, "the line is empty"),
-            FormCause::NoWord(word) => no_word(f, Quoted(word)),
-            FormCause::NetAgain => write!(f, "the net is named in line 1"),
-            FormCause::FaultyLate => write!(f, "faulty links are named before the first event"),
+            Self::Missing(form, i) => missing_field(f, form, i),
+            Self::NoWord(word) => no_word(f, Quoted(word)),
         }
     }
+}
+
+fn missing_field<W: fmt::Write>(f: &mut fmt::Formatter<W>, form: Form, i: usize) -> fmt::Result {
+    write!(
+        f,
+        "{} is missing, and the form is `{}`",
+        form.name(i),
+        form.text()
+    )
 }
 
 fn no_word<W: fmt::Write>(f: &mut fmt::Formatter<W>, word: Quoted<'_>) -> fmt::Result {

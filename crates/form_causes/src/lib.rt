@@ -7,7 +7,7 @@ mod encoding;
 
 pub use crate::cause::FormCause;
 use crate::encoding::encoding;
-use cause_text::shown::Numbered;
+use cause_text::shown::NumberedByte;
 use line_fields::forms::Form;
 use line_fields::line::field;
 use line_fields::spaces::{odd_space, spaces};
@@ -16,7 +16,7 @@ use parts::prints;
 // The line of the header that belongs here: of the net, or of base b in line b + 1.
 pub fn belongs<'a>(number: usize) -> FormCause<'a> {
     if number < 2 {
-        return FormCause::FirstLine;
+        return FormCause::Said("the first line is `net n t`");
     }
     FormCause::Belongs(number - 1)
 }
@@ -29,8 +29,8 @@ fn odd_byte<'a>(line: &'a [u8]) -> Option<FormCause<'a>> {
     Some(match byte {
         b'\r' => FormCause::CarriageReturn(number),
         b'\t' => FormCause::Tab(number),
-        0..128 => FormCause::Control(Numbered { number, byte }),
-        _ => FormCause::NotAscii(Numbered { number, byte }),
+        0..128 => FormCause::Control(NumberedByte { number, byte }),
+        _ => FormCause::NotAscii(NumberedByte { number, byte }),
     })
 }
 
@@ -44,7 +44,7 @@ fn unended<'a>(s: &[u8], line: &[u8], at: usize) -> Option<FormCause<'a>> {
     if at.saturating_add(line.len()) < s.len() {
         return None;
     }
-    Some(FormCause::NoLineFeed)
+    Some(FormCause::Said("no line feed stands at the end"))
 }
 
 // A space behind which the line ends: a field is missing there, or the space is too many. Behind `forge a b ` there may be nothing.
@@ -72,7 +72,7 @@ fn space_before<'a>(line: &'a [u8]) -> Option<FormCause<'a>> {
 
 fn unknown<'a>(line: &'a [u8]) -> FormCause<'a> {
     if line.is_empty() {
-        return FormCause::Empty;
+        return FormCause::Said("the line is empty");
     }
     FormCause::NoWord(field(line, 0))
 }
@@ -87,8 +87,10 @@ fn header_form(number: usize) -> Form {
 
 fn behind_the_header<'a>(form: Form, number: usize, events: usize) -> Option<FormCause<'a>> {
     match form {
-        Form::Net => Some(FormCause::NetAgain),
-        Form::Faulty if events < number => Some(FormCause::FaultyLate),
+        Form::Net => Some(FormCause::Said("the net is named in line 1")),
+        Form::Faulty if events < number => Some(FormCause::Said(
+            "faulty links are named before the first event",
+        )),
         _ => None,
     }
 }

@@ -1,14 +1,14 @@
 // What a call answers, a line each.
-use message_text::message::first_of;
+use message_text::message::first_identifiers;
 use reader::Reading;
 use std::{fmt, io};
 use writer::Written;
 
 // Bytes in hexadecimal.
 #[derive(Clone, Copy)]
-struct Hex<'a>(&'a [u8]);
+struct HexDigits<'a>(&'a [u8]);
 
-impl fmt::Display for Hex<'_> {
+impl fmt::Display for HexDigits<'_> {
     fn fmt<W: fmt::Write>(&self, f: &mut fmt::Formatter<W>) -> fmt::Result {
         write!(f, "[")?;
         for b in self.0 {
@@ -21,11 +21,14 @@ impl fmt::Display for Hex<'_> {
 // The number of the check, the body, and the reading, of a burst in a net of n bases.
 pub(crate) fn reading(out: &impl Print, n: usize, burst: &[u8]) -> io::Result<()> {
     let body = stretch::stretch(n, burst);
-    print!(out; "{} {} ", bursts::check(n, burst), Hex(body))?;
+    print!(out; "{} {} ", bursts::check(n, burst), HexDigits(body))?;
     match reader::read(n, burst) {
         Reading::Message { kind, count, start } => {
             let ids = decoding::id_array(body);
-            println!(out; "kind {kind} at {start}{}", first_of(&ids, count as usize))
+            println!(out;
+                "kind {kind} at {start}{}",
+                first_identifiers(&ids, count as usize)
+            )
         }
         Reading::Refused(r) => println!(out; "refused {r}"),
     }
@@ -43,7 +46,7 @@ pub(crate) fn written(
         Written::Frame(size) => print!(out; "length {} slots {} ", size.length, size.slots)?,
         Written::Refused(r) => print!(out; "refused {r} ")?,
     }
-    println!(out; "{}", Hex(output))
+    println!(out; "{}", HexDigits(output))
 }
 
 // The sizes of two frames, and the output after them.
@@ -61,6 +64,6 @@ pub(crate) fn two(
         "slots {} {} {}",
         sizes.front.slots,
         sizes.next.slots,
-        Hex(output)
+        HexDigits(output)
     )
 }

@@ -3,7 +3,7 @@
 
 #![tactic(auto)]
 
-use input::program::{Program, run};
+use input::program::{Program, run_program};
 use limits::LONGEST_SCHEDULE;
 use parts::part;
 use set_text::{SETS_ROOM, sets_text};
@@ -31,7 +31,7 @@ impl Program for Hillfaults {
 fn main(rt: HostRuntime) {
     // The input is read to its end; what the first line cannot reach is not kept.
     let mut schedule = [0u8; LONGEST_SCHEDULE];
-    run(
+    run_program(
         &Hillfaults,
         &rt,
         &mut rt.stdin(),

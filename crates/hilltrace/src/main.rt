@@ -3,7 +3,7 @@
 
 #![tactic(auto)]
 
-use input::program::{Program, run};
+use input::program::{Program, run_program};
 use limits::LONGEST_SCHEDULE;
 use parts::part;
 use replay::{REPORT_ROOM, roster_replay};
@@ -31,7 +31,7 @@ impl Program for Hilltrace {
 fn main(rt: HostRuntime) {
     // One byte more than a schedule may have, so that a longer one is seen.
     let mut schedule = [0u8; LONGEST_SCHEDULE + 1];
-    run(
+    run_program(
         &Hilltrace,
         &rt,
         &mut rt.stdin(),

@@ -37,7 +37,7 @@ fn answer_input<P: Program>(
 }
 
 // Runs a program that takes no argument, with room for its input.
-pub fn run<P: Program>(
+pub fn run_program<P: Program>(
     program: &P,
     rt: &(impl Env + Print),
     input: &mut impl Read,

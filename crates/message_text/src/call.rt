@@ -1,12 +1,12 @@
 // What a call broadcast.
-use crate::message::Spoken;
+use crate::message::BurstMessage;
 use c_answers::CallAnswer;
 use parts::part;
 use std::io;
 
 // A call at base b of n, which had made so many broadcasts, whether the base stops by it, and what it answered.
 #[derive(Clone, Copy)]
-pub struct Call<'a> {
+pub struct BaseCall<'a> {
     pub b: u8,
     pub n: u8,
     pub made: usize,
@@ -15,7 +15,7 @@ pub struct Call<'a> {
     pub frames: &'a [u8],
 }
 
-impl<'a> Call<'a> {
+impl<'a> BaseCall<'a> {
     // Its frame i of 1 to 3, empty where it broadcast fewer.
     fn frame(&self, i: usize) -> &'a [u8] {
         let CallAnswer {
@@ -40,7 +40,7 @@ impl<'a> Call<'a> {
         println!(out;
             "  base {} broadcasts {number}: {}",
             self.b,
-            Spoken { n: self.n, burst }
+            BurstMessage { n: self.n, burst }
         )
     }
 

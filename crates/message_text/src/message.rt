@@ -17,7 +17,7 @@ impl fmt::Display for Identifiers<'_> {
 }
 
 // As many as there are, up to a number.
-pub fn first_of(ids: &[u32], count: usize) -> Identifiers<'_> {
+pub fn first_identifiers(ids: &[u32], count: usize) -> Identifiers<'_> {
     Identifiers(ids.get(..count).unwrap_or(ids))
 }
 
@@ -32,19 +32,19 @@ fn kind_word(kind: u8) -> &'static str {
 
 // The message of a burst that is fit, in a net of n bases.
 #[derive(Clone, Copy)]
-pub struct Spoken<'a> {
+pub struct BurstMessage<'a> {
     pub n: u8,
     pub burst: &'a [u8],
 }
 
-impl fmt::Display for Spoken<'_> {
+impl fmt::Display for BurstMessage<'_> {
     fn fmt<W: fmt::Write>(&self, f: &mut fmt::Formatter<W>) -> fmt::Result {
         let taken = read_numbers(self.n as usize, self.burst);
         write!(
             f,
             "{}{}",
             kind_word(taken.kind),
-            first_of(&taken.ids, taken.count)
+            first_identifiers(&taken.ids, taken.count)
         )
     }
 }

@@ -50,14 +50,14 @@ pub(crate) fn separator(named: usize) -> &'static str {
 
 // Two identifiers that are a suspect pair, and what makes it one.
 #[derive(Clone, Copy)]
-struct Pair {
+struct SuspectPair {
     g: u32,
     h: u32,
     first: Option<Lacking>,
     second: Option<Lacking>,
 }
 
-impl fmt::Display for Pair {
+impl fmt::Display for SuspectPair {
     fn fmt<W: fmt::Write>(&self, f: &mut fmt::Formatter<W>) -> fmt::Result {
         write!(f, "{} and {} (", self.g, self.h)?;
         if let Some(first) = self.first {
@@ -74,13 +74,13 @@ impl fmt::Display for Pair {
 }
 
 // The own identifier and that of link i: only the other's link is looked at.
-fn own_pair(b: u8, base: Base, i: usize) -> Option<Pair> {
+fn own_pair(b: u8, base: Base, i: usize) -> Option<SuspectPair> {
     let link = link_at(base, i);
     if !lacks(link, base.own) {
         return None;
     }
     let first = Some(Lacking { b, i, g: base.own });
-    Some(Pair {
+    Some(SuspectPair {
         g: base.own,
         h: link.announce,
         first,
@@ -89,7 +89,7 @@ fn own_pair(b: u8, base: Base, i: usize) -> Option<Pair> {
 }
 
 // The identifiers of links i and j.
-fn link_pair(b: u8, base: Base, i: usize, j: usize) -> Option<Pair> {
+fn link_pair(b: u8, base: Base, i: usize, j: usize) -> Option<SuspectPair> {
     let one = link_at(base, i);
     let other = link_at(base, j);
     let (g, h) = (one.announce, other.announce);
@@ -98,7 +98,7 @@ fn link_pair(b: u8, base: Base, i: usize, j: usize) -> Option<Pair> {
     if !has_announce(one) || !has_announce(other) || first.or(second).is_none() {
         return None;
     }
-    Some(Pair {
+    Some(SuspectPair {
         g,
         h,
         first,
