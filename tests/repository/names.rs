@@ -1,7 +1,7 @@
-//! One name a thing: no definition, lemma, struct, enum or function of the crates has the name of another, public or not, and no public
-//! constant that of another. Fields and constructors do not count, nor what is private in an anonymous module, nor a program's `main`, nor
-//! a trait's methods, whose names the trait gives. A public function that has a definition's name cites that definition. An exported
-//! function that only hands on to a library's has its name.
+//! One name a thing: no definition, lemma, struct, enum, trait or function of the crates has the name of another, public or not, and no
+//! public constant that of another. Fields and constructors do not count, nor what is private in an anonymous module, nor a program's
+//! `main`, nor the methods of an `impl TRAIT for TYPE`, whose names the trait gives. A public function that has a definition's name cites
+//! that definition. An exported function that only hands on to a library's has its name.
 
 use crate::antt::modules;
 use crate::believed::type_name;
@@ -22,7 +22,7 @@ pub fn check() -> Result<String, Vec<String>> {
     }
     let mut wrong = Vec::new();
     for file in below("crates", ".rt") {
-        let of_trait = lines_of_traits(&file.text);
+        let of_trait = lines_for_traits(&file.text);
         for (i, line) in file.text.lines().enumerate() {
             let place = || format!("{}:{}", below_crates(&file.path), i + 1);
             let put = |places: &mut Places, name: Option<&str>| {
@@ -30,10 +30,10 @@ pub fn check() -> Result<String, Vec<String>> {
                     places.entry(name.to_string()).or_default().push(place());
                 }
             };
-            put(&mut things, type_name(line));
+            put(&mut things, type_name(line).or_else(|| trait_name(line)));
             put(&mut constants, constant_name(line));
             put(&mut functions, function_name(line).filter(|name| !of_trait[i] && !hands_on(line, name, &file.text)));
-            let public = function_name(line).filter(|_| line.starts_with("pub fn ") || line.starts_with("pub extern "));
+            let public = function_name(line).filter(|_| line.trim_start().starts_with("pub fn ") || line.starts_with("pub extern "));
             let other = public.filter(|name| definitions.contains(in_antt(name)) && !cites(&file.text, name, in_antt(name)));
             wrong.extend(other.map(|name| format!("{name} at {} has the name of a definition that it does not cite", place())));
         }
@@ -51,10 +51,16 @@ pub fn check() -> Result<String, Vec<String>> {
     }
 }
 
-/// Which lines stand in `pub trait NAME {` or `impl TRAIT for TYPE {`.
-fn lines_of_traits(text: &str) -> Vec<bool> {
+/// `pub trait NAME {`
+fn trait_name(line: &str) -> Option<&str> {
+    let (before, rest) = line.split_once("trait ")?;
+    rest.split(|c: char| !c.is_alphanumeric() && c != '_').next().filter(|_| before.is_empty() || before.starts_with("pub"))
+}
+
+/// Which lines stand in `impl TRAIT for TYPE {`.
+fn lines_for_traits(text: &str) -> Vec<bool> {
     let mut inside = false;
-    let begins = |line: &str| line.starts_with("pub trait ") || (line.starts_with("impl") && line.contains(" for "));
+    let begins = |line: &str| line.starts_with("impl") && line.contains(" for ");
     let each = text.lines().map(|line| {
         if !line.is_empty() && !line.starts_with(' ') {
             inside = begins(line);

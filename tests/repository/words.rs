@@ -27,7 +27,7 @@ pub fn check() -> Result<String, Vec<String>> {
     let sources = [
         ("include/roster.h", header(), table.len()),
         ("crates/limits/src/refusal.rt", constants(), table.len()),
-        ("the trace", arms("crates/cause_text/src/meanings.rt"), OF_A_SCHEDULE),
+        ("the trace", meanings(), OF_A_SCHEDULE),
         ("the picture", arms("tools/hillpicture/refusals.rs"), 9),
     ];
     for (source, said, fewest) in sources {
@@ -131,12 +131,24 @@ fn constants() -> Result<Vec<Said>, String> {
     Ok(found)
 }
 
+/// The arms of the trace: each number in its order, and no words for any other.
+fn meanings() -> Result<Vec<Said>, String> {
+    let file = "crates/cause_text/src/meanings.rt";
+    let mut found = arms(file)?;
+    let other = found.pop().filter(|last| last.number.is_none() && last.words.is_empty());
+    let in_order = found.iter().map(|said| said.number).eq((1..=OF_A_SCHEDULE).map(Some));
+    match other.is_some() && in_order {
+        true => Ok(found),
+        false => Err(format!("{file} has not each number in its order")),
+    }
+}
+
 /// `7 => .. "words" ..`
 fn arms(file: &str) -> Result<Vec<Said>, String> {
     let text = text_of(file)?;
     let mut found = Vec::new();
     for (key, rest) in text.lines().filter_map(|line| line.trim_start().split_once(" => ")) {
-        let Some(words) = rest.split('"').nth(1).filter(|words| !words.is_empty()) else { continue };
+        let Some(words) = rest.split('"').nth(1) else { continue };
         found.push(Said { number: key.parse().ok(), name: String::new(), words: plain(words) });
     }
     Ok(found)

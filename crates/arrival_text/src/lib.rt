@@ -9,13 +9,14 @@ mod trailer;
 use crate::reason::discarded_for;
 use crate::trailer::Trailer;
 use cause_text::meanings::number_meaning;
+use cause_text::shown::CountOf;
 use frame::kind::CORRECT_FINAL;
 use held::HELD_VERIFY_FINAL;
-use message_text::message::{BurstMessage, first_identifiers};
+use message_text::message::{AtBase, BurstMessage, first_identifiers};
 use numbering::link_at;
 use protocol::{Base, Link};
 use readings::read_numbers;
-use std::{fmt, io};
+use std::fmt;
 
 // On which link a burst arrives, from which base or as if from it.
 #[derive(Clone, Copy)]
@@ -34,20 +35,17 @@ impl fmt::Display for Arrival {
     }
 }
 
-pub fn say_refused(
-    out: &impl Print,
-    b: u8,
-    arrival: Arrival,
-    burst: &[u8],
-    refusal: u8,
-) -> io::Result<()> {
-    let bytes = if burst.len() == 1 { "byte" } else { "bytes" };
-    print!(out; "  base {b} hears {} {bytes} {arrival}: ", burst.len())?;
-    println!(out;
+pub fn say_refused(out: &impl Print, b: u8, arrival: Arrival, burst: &[u8], refusal: u8) {
+    let _ = print!(out;
+        "{} hears {} {arrival}: ",
+        AtBase(b),
+        CountOf(burst.len(), "byte")
+    );
+    let _ = println!(out;
         "refused by {refusal}, {}{}",
-        number_meaning(refusal),
+        number_meaning(refusal as usize),
         Trailer { refusal, burst }
-    )
+    );
 }
 
 // A Correct-Final takes the place of the Verify-Final that its link held.
@@ -63,25 +61,28 @@ pub fn say_heard(
     arrival: Arrival,
     accepted: bool,
     burst: &[u8],
-) -> io::Result<()> {
+) {
     let n = base.n;
     let held = link_at(base, arrival.link);
     let taken = read_numbers(n as usize, burst);
-    print!(out;
-        "  base {b} hears {} {arrival}: ",
+    let _ = print!(out;
+        "{} hears {} {arrival}: ",
+        AtBase(b),
         BurstMessage { n, burst }
-    )?;
+    );
     if !accepted {
-        return println!(out;
+        let _ = println!(out;
             "discarded, {}",
             discarded_for(base, held, taken.kind, taken.ids[0])
         );
+        return;
     }
     if replaces(held, taken.kind) {
-        return println!(out;
+        let _ = println!(out;
             "accepted, in place of the link's Verify-Final of{}",
             first_identifiers(&held.list, n as usize)
         );
+        return;
     }
-    println!(out; "accepted")
+    let _ = println!(out; "accepted");
 }

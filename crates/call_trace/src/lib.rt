@@ -11,14 +11,13 @@ use frame::kind::CORRECT_FINAL;
 use leader_rule::leader_of;
 use limits::OUTPUT_ROOM;
 use message_text::call::BaseCall;
-use message_text::message::first_identifiers;
+use message_text::message::{AtBase, first_identifiers};
 use protocol::{Base, IDLE, PRIME};
 use readings::read_numbers;
 use starting::start;
-use std::io;
 
 // The list and the leader of a base that stops.
-fn say_stop(out: &impl Print, b: u8, after: Base) -> io::Result<()> {
+fn say_stop(out: &impl Print, b: u8, after: Base) {
     let Base {
         n,
         state,
@@ -26,29 +25,31 @@ fn say_stop(out: &impl Print, b: u8, after: Base) -> io::Result<()> {
         ..
     } = after;
     let word = if state == PRIME { "prime" } else { "secondary" };
-    println!(out;
-        "  base {b} stops: {word}{} leader {}",
+    let _ = println!(out;
+        "{} stops: {word}{} leader {}",
+        AtBase(b),
         first_identifiers(&final_list, n as usize),
         leader_of(&final_list)
-    )
+    );
 }
 
 // The check that follows an accepted message, at a base that may have sent its Verify-Final before.
-fn checked(out: &impl Print, b: u8, sent: bool, after: Base, burst: &[u8]) -> io::Result<()> {
+fn checked(out: &impl Print, b: u8, sent: bool, after: Base, burst: &[u8]) {
     let taken = read_numbers(after.n as usize, burst);
     if taken.kind < CORRECT_FINAL {
         return check_text::prime(out, b, after);
     }
     if sent {
-        check_text::sent_before(out, b, after, taken.kind, taken.ids)?;
+        check_text::sent_before(out, b, after, taken.kind, taken.ids);
     }
     check_text::secondary(out, b, after, taken.ids)
 }
 
 // A start at base b, which had made so many broadcasts.
-pub fn show_start(out: &impl Print, b: u8, base: Base, made: usize) -> io::Result<()> {
+pub fn show_start(out: &impl Print, b: u8, base: Base, made: usize) {
     if base.state != IDLE {
-        return println!(out; "  base {b} has started: discarded");
+        let _ = println!(out; "{} has started: discarded", AtBase(b));
+        return;
     }
     let mut frames = [0u8; OUTPUT_ROOM];
     let change = start(base, &mut frames);
@@ -60,37 +61,29 @@ pub fn show_start(out: &impl Print, b: u8, base: Base, made: usize) -> io::Resul
         answer: outcome_numbers(change.outcome),
         frames: &frames,
     };
-    call.say_start(out)?;
+    call.say_start(out);
     call.say_slots(out)
 }
 
 // What a message led to that an idle base heard first.
-fn answered_first(out: &impl Print, call: BaseCall, after: Base, burst: &[u8]) -> io::Result<()> {
-    call.say_behind_start(out)?;
+fn answered_first(out: &impl Print, call: BaseCall, after: Base, burst: &[u8]) {
+    call.say_behind_start(out);
     if call.answer.outcome == ACCEPTED {
-        checked(out, call.b, false, after, burst)?;
+        checked(out, call.b, false, after, burst);
     }
-    Ok(())
 }
 
 // What a message that was heard led to.
-fn answered_running(
-    out: &impl Print,
-    call: BaseCall,
-    sent: bool,
-    after: Base,
-    burst: &[u8],
-) -> io::Result<()> {
-    call.say_frames(out, false)?;
+fn answered_running(out: &impl Print, call: BaseCall, sent: bool, after: Base, burst: &[u8]) {
+    call.say_frames(out, false);
     if call.answer.outcome != ACCEPTED {
-        return Ok(());
+        return;
     }
-    checked(out, call.b, sent, after, burst)?;
+    checked(out, call.b, sent, after, burst);
     if call.stops {
-        call.say_frames(out, true)?;
-        say_stop(out, call.b, after)?;
+        call.say_frames(out, true);
+        say_stop(out, call.b, after);
     }
-    Ok(())
 }
 
 // A message that was not refused, at a base as it was before and after.
@@ -101,14 +94,14 @@ fn arrived(
     after: Base,
     arrival: Arrival,
     burst: &[u8],
-) -> io::Result<()> {
+) {
     let accepted = call.answer.outcome == ACCEPTED;
     if base.state == IDLE {
-        call.say_start(out)?;
-        say_heard(out, call.b, base, arrival, accepted, burst)?;
+        call.say_start(out);
+        say_heard(out, call.b, base, arrival, accepted, burst);
         return answered_first(out, call, after, burst);
     }
-    say_heard(out, call.b, base, arrival, accepted, burst)?;
+    say_heard(out, call.b, base, arrival, accepted, burst);
     answered_running(out, call, base.sent != 0, after, burst)
 }
 
@@ -120,7 +113,7 @@ pub fn show_arrival(
     made: usize,
     arrival: Arrival,
     burst: &[u8],
-) -> io::Result<()> {
+) {
     let mut frames = [0u8; OUTPUT_ROOM];
     let change = arrive(base, arrival.link, burst, &mut frames);
     let answer = outcome_numbers(change.outcome);
@@ -136,6 +129,6 @@ pub fn show_arrival(
         answer,
         frames: &frames,
     };
-    arrived(out, call, base, after, arrival, burst)?;
+    arrived(out, call, base, after, arrival, burst);
     call.say_slots(out)
 }

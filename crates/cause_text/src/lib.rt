@@ -5,4 +5,4 @@
 
 pub mod meanings;
 pub mod shown;
-mod visible;
+pub mod visible;

@@ -1,5 +1,5 @@
 // What a refusal's number means, in the words of docs/RULES.md.
-pub fn number_meaning(number: u8) -> &'static str {
+pub fn number_meaning(number: usize) -> &'static str {
     match number {
         1 => "n is not 2 to 16",
         2 => "t is above its limit",

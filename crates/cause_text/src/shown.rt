@@ -63,26 +63,26 @@ impl fmt::Display for Quoted<'_> {
     }
 }
 
-// A field by its name and as it stands.
+// A field by its name and as it stands. It is looked for in the line when it is shown.
 #[derive(Clone, Copy)]
 pub struct NamedField<'a> {
-    name: &'static str,
-    bytes: &'a [u8],
+    form: Option<Form>,
+    line: &'a [u8],
+    i: usize,
 }
 
 impl<'a> NamedField<'a> {
-    // Field i of a line of that form.
-    pub fn in_line(form: Form, line: &'a [u8], i: usize) -> NamedField<'a> {
-        NamedField {
-            name: form.name(i),
-            bytes: field(line, i),
-        }
+    // Field i of a line of that form; it has no name where there is none.
+    pub fn in_line(form: Option<Form>, line: &'a [u8], i: usize) -> NamedField<'a> {
+        NamedField { form, line, i }
     }
 }
 
 impl fmt::Display for NamedField<'_> {
     fn fmt<W: fmt::Write>(&self, f: &mut fmt::Formatter<W>) -> fmt::Result {
-        write!(f, "{} is {}", self.name, Quoted(self.bytes))
+        let i = self.i;
+        let name = self.form.map_or("", |form| form.name(i));
+        write!(f, "{name} is {}", Quoted(field(self.line, i)))
     }
 }
 

@@ -3,7 +3,7 @@ use parts::prints;
 use std::fmt;
 
 #[derive(Clone, Copy)]
-pub(crate) struct Visible<'a>(pub(crate) &'a [u8]);
+pub struct Visible<'a>(pub &'a [u8]);
 
 impl fmt::Display for Visible<'_> {
     fn fmt<W: fmt::Write>(&self, f: &mut fmt::Formatter<W>) -> fmt::Result {

@@ -16,7 +16,6 @@ use limits::LONGEST_SCHEDULE;
 use limits::refusal::FORM;
 use line_fields::forms::Form;
 use line_fields::line::line_at;
-use std::io;
 
 // A line that is refused, and what the lines before it have told.
 #[derive(Clone, Copy)]
@@ -39,13 +38,8 @@ fn ended_line<'a>(s: &[u8], line: &'a [u8], refused: &RefusedLine) -> Option<Cau
     let form = Form::of_line(line);
     let bytes = byte_cause(s, line, refused.at).or(space_cause(form, line));
     let word = word_cause(form, line, refused.number, refused.n, refused.faulty);
-    let found = bytes.or(word).map(Cause::Form);
-    match form {
-        Some(form) => found.or(field_cause(form, s, line, refused.number, refused.n).map(
-            Cause::Field,
-        )),
-        None => found,
-    }
+    let field = field_cause(form, s, line, refused.number, refused.n);
+    bytes.or(word).map(Cause::Form).or(field.map(Cause::Field))
 }
 
 // Number 13: what breaks a line's form.
@@ -80,20 +74,19 @@ fn further<'a>(cause: Cause<'a>, line: &'a [u8], refused: &RefusedLine) -> Optio
     }
 }
 
-pub fn explain(out: &impl Print, s: &[u8], refused: &RefusedLine) -> io::Result<()> {
+pub fn explain(out: &impl Print, s: &[u8], refused: &RefusedLine) {
     let line = line_at(s, refused.at);
-    println!(out; "line {}: {}", refused.number, WholeLine(line))?;
-    println!(out;
+    let _ = println!(out; "line {}: {}", refused.number, WholeLine(line));
+    let _ = println!(out;
         "  refused by {}, {}",
         refused.refusal,
-        number_meaning(refused.refusal)
-    )?;
+        number_meaning(refused.refusal as usize)
+    );
     let Some(cause) = cause_of(s, line, refused) else {
-        return Ok(());
+        return;
     };
-    println!(out; "  {cause}")?;
-    match further(cause, line, refused) {
-        Some(more) => println!(out; "  {more}"),
-        None => Ok(()),
+    let _ = println!(out; "  {cause}");
+    if let Some(more) = further(cause, line, refused) {
+        let _ = println!(out; "  {more}");
     }
 }

@@ -74,17 +74,22 @@ fn carry_again<'a>(s: &[u8], line: &'a [u8]) -> NumberCause<'a> {
     NumberCause::CarryAgain(first_alike(s, line, 0))
 }
 
+// Field i, which has its name by the line's own form.
+fn named<'a>(line: &'a [u8], i: usize) -> NamedField<'a> {
+    NamedField::in_line(Form::of_line(line), line, i)
+}
+
 fn wrong_number<'a>(line: &'a [u8]) -> NumberCause<'a> {
-    NumberCause::WrongNumber(NamedField::in_line(Form::Net, line, 1))
+    NumberCause::WrongNumber(named(line, 1))
 }
 
 fn above_limit<'a>(line: &'a [u8]) -> NumberCause<'a> {
     let most = most_faulty(value(line, 1));
-    NumberCause::AboveLimit(NamedField::in_line(Form::Net, line, 2), most)
+    NumberCause::AboveLimit(named(line, 2), most)
 }
 
 fn too_few_broadcasts<'a>(line: &'a [u8], count: usize) -> NumberCause<'a> {
-    NumberCause::TooFewBroadcasts(NamedField::in_line(Form::Carry, line, 1), count)
+    NumberCause::TooFewBroadcasts(named(line, 1), count)
 }
 
 pub(crate) fn number_cause<'a>(s: &[u8], line: &'a [u8], refused: &RefusedLine) -> NumberCause<'a> {

@@ -1,15 +1,23 @@
 // Lines that say the same.
 use line_fields::forms::Form;
-use line_fields::line::fields_from;
+use line_fields::line::{fields_from, line_at};
+use parts::plus;
 
 // Whether two lines have one word, and are the same from a field on.
 fn alike(one: &[u8], other: &[u8], from: usize) -> bool {
     Form::of_line(one) == Form::of_line(other) && fields_from(one, from) == fields_from(other, from)
 }
 
-// The number of the first line of a schedule that is like that one, from a field on; 0 where there is none.
+// The number of the first line of a schedule that is like that one, from a field on. As many lines are tried as there are bytes; behind the
+// last they are empty.
 pub fn first_alike(s: &[u8], line: &[u8], from: usize) -> usize {
-    let mut lines = s.split(|b| *b == b'\n');
-    let before = lines.position(|one| alike(one, line, from));
-    before.map_or(0, |i| i.saturating_add(1))
+    let mut next: usize = 0;
+    for k in 1..=s.len() {
+        let one = line_at(s, next);
+        if alike(one, line, from) {
+            return k;
+        }
+        next = plus(plus(next, one.len()), 1);
+    }
+    s.len()
 }

@@ -6,9 +6,9 @@ use std::fmt;
 // A number is what it is named, or of a line, which is named so.
 #[derive(Clone, Copy)]
 pub enum FieldCause<'a> {
-    Said(&'static str),
     // How many there are.
-    FieldCount(Form, usize),
+    FieldCount(Option<Form>, usize),
+    SpaceBeforeHex,
     // The byte that is a space.
     HexTogether(usize),
     NotDigits(NamedField<'a>),
@@ -20,6 +20,9 @@ pub enum FieldCause<'a> {
     OddDigits(usize),
     // How many bases the net has.
     NoBase(NamedField<'a>, usize),
+    SameBase,
+    NumberZero,
+    LargerFirst,
     // The line.
     LinkAgain(usize),
     // The base of the line that belongs here.
@@ -32,8 +35,11 @@ pub enum FieldCause<'a> {
 impl fmt::Display for FieldCause<'_> {
     fn fmt<W: fmt::Write>(&self, f: &mut fmt::Formatter<W>) -> fmt::Result {
         match *self {
-            Self::Said(words) => write!(f, "{words}"),
             Self::FieldCount(form, count) => field_count(f, form, CountOf(count, "field")),
+            Self::SpaceBeforeHex => write!(
+                f,
+                "the space before hex stands even where there are no bytes"
+            ),
             Self::HexTogether(i) => write!(
                 f,
                 "byte {i} is a space, and the digits of hex stand together"
@@ -47,12 +53,11 @@ impl fmt::Display for FieldCause<'_> {
                 f,
                 "hex has {count} bytes, and at most 132 are allowed"
             ),
-            Self::OddDigits(count) => write!(
-                f,
-                "hex has {}, and a byte has two",
-                CountOf(count, "digit")
-            ),
+            Self::OddDigits(count) => odd_digits(f, CountOf(count, "digit")),
             Self::NoBase(field, n) => write!(f, "{field}, and the net has bases 1 to {n}"),
+            Self::SameBase => write!(f, "a and b are the same base"),
+            Self::NumberZero => write!(f, "k is 0, and broadcasts are numbered from 1"),
+            Self::LargerFirst => write!(f, "a is above b, and the smaller base comes first"),
             Self::LinkAgain(line) => write!(f, "line {line} names that link"),
             Self::OtherBase(field, b) => write!(
                 f,
@@ -67,14 +72,18 @@ impl fmt::Display for FieldCause<'_> {
     }
 }
 
+fn odd_digits<W: fmt::Write>(f: &mut fmt::Formatter<W>, digits: CountOf) -> fmt::Result {
+    write!(f, "hex has {digits}, and a byte has two")
+}
+
 fn field_count<W: fmt::Write>(
     f: &mut fmt::Formatter<W>,
-    form: Form,
+    form: Option<Form>,
     fields: CountOf,
 ) -> fmt::Result {
     write!(
         f,
         "the form is `{}`, and the line has {fields} behind its word",
-        form.text()
+        form.map_or("", |form| form.text())
     )
 }

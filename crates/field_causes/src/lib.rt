@@ -12,10 +12,11 @@ use limits::LONGEST_FORGERY;
 use line_fields::forms::Form;
 use line_fields::line::{field, fields_from, value};
 use line_fields::spaces::{nth_space, spaces};
+use parts::plus;
 use text::number::{Number, number_at};
 
 // What keeps a field that is there from being a decimal number without leading zeros, at most 4,294,967,295.
-fn decimal_cause<'a>(form: Form, line: &'a [u8], i: usize) -> Option<FieldCause<'a>> {
+fn decimal_cause<'a>(form: Option<Form>, line: &'a [u8], i: usize) -> Option<FieldCause<'a>> {
     let digits = field(line, i);
     let named = NamedField::in_line(form, line, i);
     if digits.iter().any(|b| !b.is_ascii_digit()) {
@@ -37,15 +38,15 @@ fn in_net(line: &[u8], i: usize, n: usize) -> bool {
 }
 
 // What is told of hex behind the count of fields: the bytes may be missing with their space.
-pub fn hex_hint<'a>(form: Form, line: &'a [u8], n: usize) -> Option<FieldCause<'a>> {
-    if form != Form::Forge {
+pub fn hex_hint<'a>(form: Option<Form>, line: &'a [u8], n: usize) -> Option<FieldCause<'a>> {
+    if form != Some(Form::Forge) {
         return None;
     }
     if let Some(place) = nth_space(line, 3) {
-        return Some(FieldCause::HexTogether(place.saturating_add(1)));
+        return Some(FieldCause::HexTogether(plus(place, 1)));
     }
     if spaces(line) == 2 && in_net(line, 2, n) {
-        return Some(FieldCause::Said("the space before hex stands even where there are no bytes"));
+        return Some(FieldCause::SpaceBeforeHex);
     }
     None
 }
@@ -58,7 +59,7 @@ fn hex_digit_cause<'a>(line: &'a [u8]) -> Option<FieldCause<'a>> {
         .position(|b| !matches!(*b, b'0'..=b'9' | b'a'..=b'f'))?;
     let byte = *digits.get(place)?;
     let before = line.len().saturating_sub(digits.len());
-    let number = before.saturating_add(place).saturating_add(1);
+    let number = plus(plus(before, place), 1);
     Some(match byte {
         b'A'..=b'F' => FieldCause::CapitalHex(NumberedByte { number, byte }),
         _ => FieldCause::NotHex(NumberedByte { number, byte }),
@@ -76,14 +77,19 @@ fn hex_length<'a>(length: usize) -> Option<FieldCause<'a>> {
     None
 }
 
-fn third<'a>(form: Form, line: &'a [u8]) -> Option<FieldCause<'a>> {
-    if form == Form::Forge {
+fn third<'a>(form: Option<Form>, line: &'a [u8]) -> Option<FieldCause<'a>> {
+    if form == Some(Form::Forge) {
         return hex_digit_cause(line).or(hex_length(field(line, 3).len()));
     }
     decimal_cause(form, line, 3)
 }
 
-fn base_cause<'a>(form: Form, line: &'a [u8], i: usize, n: usize) -> Option<FieldCause<'a>> {
+fn base_cause<'a>(
+    form: Option<Form>,
+    line: &'a [u8],
+    i: usize,
+    n: usize,
+) -> Option<FieldCause<'a>> {
     if in_net(line, i, n) {
         return None;
     }
@@ -91,17 +97,17 @@ fn base_cause<'a>(form: Form, line: &'a [u8], i: usize, n: usize) -> Option<Fiel
 }
 
 // Two different bases of the net.
-fn bases<'a>(form: Form, line: &'a [u8], n: usize) -> Option<FieldCause<'a>> {
+fn bases<'a>(form: Option<Form>, line: &'a [u8], n: usize) -> Option<FieldCause<'a>> {
     let both = base_cause(form, line, 1, n).or(base_cause(form, line, 2, n));
     if value(line, 1) == value(line, 2) {
-        return both.or(Some(FieldCause::Said("a and b are the same base")));
+        return both.or(Some(FieldCause::SameBase));
     }
     both
 }
 
 fn faulty<'a>(s: &[u8], line: &'a [u8]) -> FieldCause<'a> {
     if value(line, 2) < value(line, 1) {
-        return FieldCause::Said("a is above b, and the smaller base comes first");
+        return FieldCause::LargerFirst;
     }
     FieldCause::LinkAgain(first_alike(s, line, 0))
 }
@@ -109,7 +115,7 @@ fn faulty<'a>(s: &[u8], line: &'a [u8]) -> FieldCause<'a> {
 // Of a base whose line stands before the one that is refused, which line that is.
 pub fn line_of_base<'a>(line: &'a [u8], number: usize) -> Option<FieldCause<'a>> {
     let base = value(line, 1);
-    let its_line = base.saturating_add(1);
+    let its_line = plus(base, 1);
     if base == 0 || number <= its_line {
         return None;
     }
@@ -121,44 +127,42 @@ pub fn line_of_base<'a>(line: &'a [u8], number: usize) -> Option<FieldCause<'a>>
 
 // In the header, or behind it.
 fn id<'a>(line: &'a [u8], number: usize, n: usize) -> Option<FieldCause<'a>> {
-    let named = NamedField::in_line(Form::Id, line, 1);
-    if number <= n.saturating_add(1) {
+    let named = NamedField::in_line(Some(Form::Id), line, 1);
+    if number <= plus(n, 1) {
         return Some(FieldCause::OtherBase(named, number.saturating_sub(1)));
     }
-    let again = FieldCause::IdAgain(named, value(line, 1).saturating_add(1));
-    base_cause(Form::Id, line, 1, n).or(Some(again))
+    let again = FieldCause::IdAgain(named, plus(value(line, 1), 1));
+    base_cause(Some(Form::Id), line, 1, n).or(Some(again))
 }
 
 // The fields together, and held against the net.
 fn together<'a>(
-    form: Form,
+    form: Option<Form>,
     s: &[u8],
     line: &'a [u8],
     number: usize,
     n: usize,
 ) -> Option<FieldCause<'a>> {
     match form {
-        Form::Net => None,
-        Form::Id => id(line, number, n),
-        Form::Faulty => bases(form, line, n).or(Some(faulty(s, line))),
-        Form::Start => base_cause(form, line, 1, n),
-        Form::Carry => bases(form, line, n).or(Some(FieldCause::Said(
-            "k is 0, and broadcasts are numbered from 1",
-        ))),
-        Form::Forge => bases(form, line, n),
+        Some(Form::Net) => None,
+        Some(Form::Id) => id(line, number, n),
+        Some(Form::Faulty) => bases(form, line, n).or(Some(faulty(s, line))),
+        Some(Form::Start) => base_cause(form, line, 1, n),
+        Some(Form::Carry) => bases(form, line, n).or(Some(FieldCause::NumberZero)),
+        Some(Form::Forge) | None => bases(form, line, n),
     }
 }
 
 // Of the line of that number, in a net of n.
 pub fn field_cause<'a>(
-    form: Form,
+    form: Option<Form>,
     s: &[u8],
     line: &'a [u8],
     number: usize,
     n: usize,
 ) -> Option<FieldCause<'a>> {
     let count = spaces(line);
-    if count != form.asked() {
+    if count != form.map_or(0, |form| form.asked()) {
         return Some(FieldCause::FieldCount(form, count));
     }
     decimal_cause(form, line, 1)

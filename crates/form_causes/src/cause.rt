@@ -6,27 +6,41 @@ use std::fmt;
 // A number is that of a byte of the line, or of what is named.
 #[derive(Clone, Copy)]
 pub enum FormCause<'a> {
-    Said(&'static str),
+    FirstLine,
     // The base.
     Belongs(usize),
+    ByteOrderMark,
+    Utf16,
     Comment(usize),
     CarriageReturn(usize),
     Tab(usize),
     Control(NumberedByte),
     NotAscii(NumberedByte),
+    NoLineFeed,
     SpaceTooMany(usize),
     SpaceAtEnd(usize),
     // The field.
     Missing(Form, usize),
+    Empty,
     // The word.
     NoWord(&'a [u8]),
+    NetAgain,
+    FaultyLate,
 }
 
 impl fmt::Display for FormCause<'_> {
     fn fmt<W: fmt::Write>(&self, f: &mut fmt::Formatter<W>) -> fmt::Result {
         match *self {
-            Self::Said(words) => write!(f, "{words}"),
+            Self::FirstLine => write!(f, "the first line is `net n t`"),
             Self::Belongs(b) => write!(f, "here belongs the line of base {b}, `id b v`"),
+            Self::ByteOrderMark => write!(
+                f,
+                "a byte-order mark (\\xef\\xbb\\xbf) stands at the beginning"
+            ),
+            Self::Utf16 => write!(
+                f,
+                "the text is in UTF-16, and each sign of a line is one byte"
+            ),
             Self::Comment(i) => write!(f, "byte {i} is `#`, and a schedule has no comments"),
             Self::CarriageReturn(i) => write!(
                 f,
@@ -38,13 +52,17 @@ impl fmt::Display for FormCause<'_> {
             ),
             Self::Control(byte) => write!(f, "{byte}, a control character, and a line has none"),
             Self::NotAscii(byte) => write!(f, "{byte}, and a line has signs of ASCII alone"),
+            Self::NoLineFeed => write!(f, "no line feed stands at the end"),
             Self::SpaceTooMany(i) => write!(f, "byte {i} is a space too many"),
             Self::SpaceAtEnd(i) => write!(
                 f,
                 "byte {i} is a space at the end of the line, where none may stand"
             ),
             Self::Missing(form, i) => missing_field(f, form, i),
+            Self::Empty => write!(f, "the line is empty"),
             Self::NoWord(word) => no_word(f, Quoted(word)),
+            Self::NetAgain => write!(f, "the net is named in line 1"),
+            Self::FaultyLate => write!(f, "faulty links are named before the first event"),
         }
     }
 }

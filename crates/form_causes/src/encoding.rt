@@ -14,10 +14,10 @@ fn is_wide(bytes: &[u8]) -> bool {
 pub(crate) fn encoding<'a>(s: &[u8], at: usize) -> Option<FormCause<'a>> {
     let rest = s.get(at..)?;
     if rest.starts_with(b"\xef\xbb\xbf") {
-        return Some(FormCause::Said("a byte-order mark (\\xef\\xbb\\xbf) stands at the beginning"));
+        return Some(FormCause::ByteOrderMark);
     }
     if is_wide(rest) || rest.get(2..).is_some_and(is_wide) {
-        return Some(FormCause::Said("the text is in UTF-16, and each sign of a line is one byte"));
+        return Some(FormCause::Utf16);
     }
     None
 }

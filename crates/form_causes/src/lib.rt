@@ -11,12 +11,12 @@ use cause_text::shown::NumberedByte;
 use line_fields::forms::Form;
 use line_fields::line::field;
 use line_fields::spaces::{odd_space, spaces};
-use parts::prints;
+use parts::{plus, prints};
 
 // The line of the header that belongs here: of the net, or of base b in line b + 1.
 pub fn belongs<'a>(number: usize) -> FormCause<'a> {
     if number < 2 {
-        return FormCause::Said("the first line is `net n t`");
+        return FormCause::FirstLine;
     }
     FormCause::Belongs(number - 1)
 }
@@ -25,7 +25,7 @@ pub fn belongs<'a>(number: usize) -> FormCause<'a> {
 fn odd_byte<'a>(line: &'a [u8]) -> Option<FormCause<'a>> {
     let place = line.iter().position(|b| !prints(*b))?;
     let byte = *line.get(place)?;
-    let number = place.saturating_add(1);
+    let number = plus(place, 1);
     Some(match byte {
         b'\r' => FormCause::CarriageReturn(number),
         b'\t' => FormCause::Tab(number),
@@ -36,25 +36,27 @@ fn odd_byte<'a>(line: &'a [u8]) -> Option<FormCause<'a>> {
 
 fn comment<'a>(line: &'a [u8]) -> Option<FormCause<'a>> {
     let place = line.iter().position(|b| *b == b'#')?;
-    Some(FormCause::Comment(place.saturating_add(1)))
+    Some(FormCause::Comment(plus(place, 1)))
 }
 
 // A line feed stands behind the line, or else the schedule ends with it.
 fn unended<'a>(s: &[u8], line: &[u8], at: usize) -> Option<FormCause<'a>> {
-    if at.saturating_add(line.len()) < s.len() {
+    if plus(at, line.len()) < s.len() {
         return None;
     }
-    Some(FormCause::Said("no line feed stands at the end"))
+    Some(FormCause::NoLineFeed)
 }
 
 // A space behind which the line ends: a field is missing there, or the space is too many. Behind `forge a b ` there may be nothing.
 fn last_space<'a>(form: Option<Form>, line: &'a [u8]) -> Option<FormCause<'a>> {
     let count = spaces(line);
-    if !line.ends_with(b" ") || (count == 3 && form == Some(Form::Forge)) {
+    let ends_with_word = line.last().is_some_and(|b| *b != b' ');
+    if ends_with_word || (count == 3 && form == Some(Form::Forge)) {
         return None;
     }
     match form {
         Some(form) if count <= form.asked() => Some(FormCause::Missing(form, count)),
+        _ if line.is_empty() => None,
         _ => Some(FormCause::SpaceAtEnd(line.len())),
     }
 }
@@ -62,7 +64,7 @@ fn last_space<'a>(form: Option<Form>, line: &'a [u8]) -> Option<FormCause<'a>> {
 // A space that has no word before it, and whether a word follows.
 fn space_before<'a>(line: &'a [u8]) -> Option<FormCause<'a>> {
     let place = odd_space(line)?;
-    let number = place.saturating_add(1);
+    let number = plus(place, 1);
     let behind = line.get(place..).unwrap_or(&[]);
     if behind.iter().all(|b| *b == b' ') {
         return Some(FormCause::SpaceAtEnd(number));
@@ -72,7 +74,7 @@ fn space_before<'a>(line: &'a [u8]) -> Option<FormCause<'a>> {
 
 fn unknown<'a>(line: &'a [u8]) -> FormCause<'a> {
     if line.is_empty() {
-        return FormCause::Said("the line is empty");
+        return FormCause::Empty;
     }
     FormCause::NoWord(field(line, 0))
 }
@@ -87,18 +89,16 @@ fn header_form(number: usize) -> Form {
 
 fn behind_the_header<'a>(form: Form, number: usize, events: usize) -> Option<FormCause<'a>> {
     match form {
-        Form::Net => Some(FormCause::Said("the net is named in line 1")),
-        Form::Faulty if events < number => Some(FormCause::Said(
-            "faulty links are named before the first event",
-        )),
+        Form::Net => Some(FormCause::NetAgain),
+        Form::Faulty if events < number => Some(FormCause::FaultyLate),
         _ => None,
     }
 }
 
 // A word that stands in another place than its own.
 fn misplaced<'a>(form: Form, number: usize, n: usize, faulty: usize) -> Option<FormCause<'a>> {
-    if n.saturating_add(1) < number {
-        let events = n.saturating_add(faulty).saturating_add(2);
+    if plus(n, 1) < number {
+        let events = plus(plus(n, faulty), 2);
         return behind_the_header(form, number, events);
     }
     if form == header_form(number) {

@@ -3,6 +3,7 @@ use hex_bytes::hex_array;
 use limits::{LIST_ROOM, LONGEST_BURST};
 use line_fields::line::field;
 use line_fields::spaces::spaces;
+use parts::plus;
 
 // Room for more than a burst may have, and for more identifiers than a list.
 pub(crate) const BYTES: usize = 2 * LONGEST_BURST;
@@ -43,14 +44,14 @@ pub(crate) fn hex_field(digits: &[u8]) -> [u8; BYTES] {
 
 // How many fields there are from one on.
 pub(crate) fn behind_fields(line: &[u8], from: usize) -> usize {
-    (spaces(line).saturating_add(1)).saturating_sub(from)
+    plus(spaces(line), 1).saturating_sub(from)
 }
 
 // The identifiers from a field on, zeros behind them.
 pub(crate) fn ids_from(line: &[u8], from: usize) -> [u32; IDENTIFIERS] {
     let mut ids = [0u32; IDENTIFIERS];
     for (i, g) in ids.iter_mut().enumerate() {
-        *g = identifier_field(line, from.saturating_add(i));
+        *g = identifier_field(line, plus(from, i));
     }
     ids
 }

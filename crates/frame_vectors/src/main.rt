@@ -14,45 +14,40 @@ use input::failure::say_failed;
 use input::read_input;
 use line_fields::line::field;
 use parts::part;
-use std::io;
 
 fn main(rt: HostRuntime) {
     let mut text = [0u8; 65536];
     match read_input(&mut rt.stdin(), &mut text) {
-        Err(why) => say_failed(&rt.stderr(), "frame_vectors", "reading standard input", why),
-        Ok(length) => {
-            // Where that cannot be written, there is nobody left to tell.
-            let _ = all(&rt, &text[..length]);
-        }
+        Err(why) => say_failed(&rt.stderr(), b"frame_vectors: reading standard input", why),
+        Ok(length) => all(&rt, &text[..length]),
     }
 }
 
-fn all(out: &impl Print, text: &[u8]) -> io::Result<()> {
+fn all(out: &impl Print, text: &[u8]) {
     for line in text.split_inclusive(|b| *b == b'\n') {
-        vector(out, line.strip_suffix(b"\n").unwrap_or(line))?;
+        vector(out, line.strip_suffix(b"\n").unwrap_or(line));
     }
-    Ok(())
 }
 
-fn vector(out: &impl Print, line: &[u8]) -> io::Result<()> {
+fn vector(out: &impl Print, line: &[u8]) {
     match line.first() {
         Some(b'r') => reads(out, line),
         Some(b'w') => writes(out, line),
         Some(b't') => writes_two(out, line),
         _ => {
-            out.write_all(line)?;
-            println!(out)
+            let _ = out.write_all(line);
+            let _ = println!(out);
         }
     }
 }
 
-fn reads(out: &impl Print, line: &[u8]) -> io::Result<()> {
+fn reads(out: &impl Print, line: &[u8]) {
     let digits = field(line, 2);
     let bytes = line::hex_field(digits);
     show::reading(out, count(line, 1), part(&bytes, 0, digits.len() / 2))
 }
 
-fn writes(out: &impl Print, line: &[u8]) -> io::Result<()> {
+fn writes(out: &impl Print, line: &[u8]) {
     let ids = line::ids_from(line, 4);
     let mut output = [0xeeu8; line::BYTES];
     show::written(
@@ -64,7 +59,7 @@ fn writes(out: &impl Print, line: &[u8]) -> io::Result<()> {
     )
 }
 
-fn writes_two(out: &impl Print, line: &[u8]) -> io::Result<()> {
+fn writes_two(out: &impl Print, line: &[u8]) {
     let ids = line::ids_from(line, 5);
     let mut output = [0xeeu8; line::BYTES];
     show::two(

@@ -14,11 +14,11 @@ struct Hillfaults;
 impl Program for Hillfaults {
     const NAME: &'static str = "hillfaults";
 
-    const USAGE: &'static str =
-        "prints each set of links that can be faulty in the net of line 1, `net n t`, up to 6 bases";
+    const USAGE: &'static [u8] =
+        b"usage: hillfaults < SCHEDULE    prints each set of links that can be faulty in the net of line 1, `net n t`, up to 6 bases\n";
 
-    const NONE_TAKEN: &'static str =
-        "`net n t`, or a schedule that begins with it, is read from standard input";
+    const NONE_TAKEN: &'static [u8] =
+        b"hillfaults: no argument is taken; `net n t`, or a schedule that begins with it, is read from standard input\n";
 
     // Writes the lines.
     fn answer(&self, out: &impl Print, schedule: &[u8]) -> io::Result<()> {

@@ -14,11 +14,11 @@ struct Hillreplay;
 impl Program for Hillreplay {
     const NAME: &'static str = "hillreplay";
 
-    const USAGE: &'static str =
-        "prints the report of the schedule; hilltrace < SCHEDULE says why a line is refused";
+    const USAGE: &'static [u8] =
+        b"usage: hillreplay < SCHEDULE    prints the report of the schedule; hilltrace < SCHEDULE says why a line is refused\n";
 
-    const NONE_TAKEN: &'static str =
-        "the schedule is read from standard input; hilltrace says why a line is refused";
+    const NONE_TAKEN: &'static [u8] =
+        b"hillreplay: no argument is taken; the schedule is read from standard input; hilltrace says why a line is refused\n";
 
     // Writes the report.
     fn answer(&self, out: &impl Print, schedule: &[u8]) -> io::Result<()> {

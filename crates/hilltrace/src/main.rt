@@ -15,13 +15,15 @@ struct Hilltrace;
 impl Program for Hilltrace {
     const NAME: &'static str = "hilltrace";
 
-    const USAGE: &'static str = "prints what each line of the schedule did, then the report";
+    const USAGE: &'static [u8] =
+        b"usage: hilltrace < SCHEDULE    prints what each line of the schedule did, then the report\n";
 
-    const NONE_TAKEN: &'static str = "the schedule is read from standard input; --help says more";
+    const NONE_TAKEN: &'static [u8] =
+        b"hilltrace: no argument is taken; the schedule is read from standard input; --help says more\n";
 
     // Writes the trace and the report.
     fn answer(&self, out: &impl Print, schedule: &[u8]) -> io::Result<()> {
-        show(out, schedule)?;
+        show(out, schedule);
         let mut report = [0u8; REPORT_ROOM];
         let end = roster_replay(schedule, &mut report);
         out.write_all(part(&report, 0, end))

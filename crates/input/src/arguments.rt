@@ -19,17 +19,16 @@ fn asks_help(rt: &impl Env) -> bool {
 pub fn no_argument(
     rt: &(impl Env + Print),
     errors: &impl Print,
-    name: &str,
-    usage: &str,
-    none_taken: &str,
+    usage: &[u8],
+    none_taken: &[u8],
 ) -> bool {
     if asks_help(rt) {
-        let _ = println!(rt; "usage: {name} < SCHEDULE    {usage}");
+        let _ = rt.write_all(usage);
         return false;
     }
     if !is_given(rt, 1) {
         return true;
     }
-    let _ = println!(errors; "{name}: no argument is taken; {none_taken}");
+    let _ = errors.write_all(none_taken);
     false
 }

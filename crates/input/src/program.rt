@@ -4,18 +4,23 @@ use crate::failure::say_failed;
 use crate::read_input;
 use std::env::Env;
 use std::io;
-use std::io::Read;
+use std::io::{Error, Read};
 
 pub trait Program {
     const NAME: &'static str;
 
-    // What `--help` says of it.
-    const USAGE: &'static str;
+    // The line that `--help` prints.
+    const USAGE: &'static [u8];
 
-    // What is said of any other argument.
-    const NONE_TAKEN: &'static str;
+    // The line that is said of any other argument.
+    const NONE_TAKEN: &'static [u8];
 
     fn answer(&self, out: &impl Print, schedule: &[u8]) -> io::Result<()>;
+}
+
+fn say_program_failed<P: Program>(errors: &impl Print, what: &[u8], why: Error) {
+    let _ = print!(errors; "{}: ", P::NAME);
+    say_failed(errors, what, why);
 }
 
 // Reads the input into a buffer, of which no more than that is looked at, and answers it.
@@ -27,10 +32,10 @@ fn answer_input<P: Program>(
     buffer: &mut [u8],
 ) {
     match read_input(input, buffer) {
-        Err(why) => say_failed(errors, P::NAME, "reading standard input", why),
+        Err(why) => say_program_failed::<P>(errors, b"reading standard input", why),
         Ok(length) => {
             if let Err(why) = program.answer(out, &buffer[..length]) {
-                say_failed(errors, P::NAME, "writing standard output", why);
+                say_program_failed::<P>(errors, b"writing standard output", why);
             }
         }
     }
@@ -44,7 +49,7 @@ pub fn run_program<P: Program>(
     errors: &impl Print,
     buffer: &mut [u8],
 ) {
-    if no_argument(rt, errors, P::NAME, P::USAGE, P::NONE_TAKEN) {
+    if no_argument(rt, errors, P::USAGE, P::NONE_TAKEN) {
         answer_input(program, rt, input, errors, buffer);
     }
 }

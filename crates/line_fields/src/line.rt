@@ -1,4 +1,5 @@
 // A line of a schedule, its word and its fields.
+use parts::plus;
 use text::number::{Number, number_at};
 
 // The line that begins at a place, without its line feed.
@@ -9,7 +10,7 @@ pub fn line_at(s: &[u8], at: usize) -> &[u8] {
 
 // The line from field i on.
 pub fn fields_from(line: &[u8], i: usize) -> &[u8] {
-    let mut fields = line.splitn(i.saturating_add(1), |b| *b == b' ');
+    let mut fields = line.splitn(plus(i, 1), |b| *b == b' ');
     fields.nth(i).unwrap_or(&[])
 }
 

@@ -16,17 +16,14 @@ use net::nodes::node_at;
 use node::log::frame_at;
 use numbering::link_to;
 use parts::part;
-use std::io;
+
+fn base_starts(out: &impl Print, net: StoredNet, b: u8) {
+    let node = node_at(net, b);
+    show_start(out, b, node.base, node.count)
+}
 
 // A burst of base a at base b.
-fn arrives(
-    out: &impl Print,
-    net: StoredNet,
-    a: u8,
-    b: u8,
-    forged: bool,
-    burst: &[u8],
-) -> io::Result<()> {
+fn arrives(out: &impl Print, net: StoredNet, a: u8, b: u8, forged: bool, burst: &[u8]) {
     let node = node_at(net, b);
     let arrival = Arrival {
         from: a,
@@ -37,26 +34,35 @@ fn arrives(
 }
 
 // Broadcast k of base a.
-fn carried(out: &impl Print, net: StoredNet, a: u8, b: u8, k: usize) -> io::Result<()> {
+fn carried(out: &impl Print, net: StoredNet, a: u8, b: u8, k: usize) {
     let frame = frame_at(node_at(net, a), k);
     let bytes = frame.bytes;
     arrives(out, net, a, b, false, part(&bytes, 0, frame.len))
 }
 
-// What the event did that is next in the net.
-fn show_doing(out: &impl Print, s: &[u8], net: StoredNet) -> io::Result<()> {
+// A forgery whose bytes stand in the schedule.
+fn forged(out: &impl Print, s: &[u8], net: StoredNet, a: u8, b: u8, at: usize, count: usize) {
+    let bytes = hex_array(s, at, count);
+    arrives(out, net, a, b, true, part(&bytes, 0, count))
+}
+
+// The line that is next in the net, where it has the form of an event, and what it does.
+pub fn show_event(out: &impl Print, s: &[u8], net: StoredNet) {
+    let line = line_at(s, net.at);
     match event_line(net.n, s, net.at) {
         Line::Start { base, .. } => {
-            let node = node_at(net, base);
-            show_start(out, base, node.base, node.count)
+            show_line(out, net.line, line);
+            base_starts(out, net, base)
         }
         Line::Carry {
             from,
             to,
             number,
             ..
-        } => carried(out, net, from, to, number as usize),
-        // The bytes of a forgery stand in the schedule.
+        } => {
+            show_line(out, net.line, line);
+            carried(out, net, from, to, number as usize)
+        }
         Line::Forge {
             from,
             to,
@@ -64,15 +70,9 @@ fn show_doing(out: &impl Print, s: &[u8], net: StoredNet) -> io::Result<()> {
             count,
             ..
         } => {
-            let bytes = hex_array(s, at, count);
-            arrives(out, net, from, to, true, part(&bytes, 0, count))
+            show_line(out, net.line, line);
+            forged(out, s, net, from, to, at, count)
         }
-        Line::Wrong => Ok(()),
+        Line::Wrong => {}
     }
-}
-
-// The line that is next in the net, which has the form of an event, and what it does.
-pub fn show_event(out: &impl Print, s: &[u8], net: StoredNet) -> io::Result<()> {
-    show_line(out, net.line, line_at(s, net.at))?;
-    show_doing(out, s, net)
 }

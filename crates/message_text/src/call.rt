@@ -1,8 +1,7 @@
 // What a call broadcast.
-use crate::message::BurstMessage;
+use crate::message::{AtBase, BurstMessage};
 use c_answers::CallAnswer;
-use parts::part;
-use std::io;
+use parts::{part, plus};
 
 // A call at base b of n, which had made so many broadcasts, whether the base stops by it, and what it answered.
 #[derive(Clone, Copy)]
@@ -27,32 +26,37 @@ impl<'a> BaseCall<'a> {
         match i {
             1 => part(self.frames, 0, first),
             2 => part(self.frames, first, second),
-            _ => part(self.frames, first.saturating_add(second), third),
+            _ => part(self.frames, plus(first, second), third),
         }
     }
 
-    fn say_frame(&self, out: &impl Print, i: usize) -> io::Result<()> {
+    fn say_frame(&self, out: &impl Print, i: usize) {
         let burst = self.frame(i);
         if burst.is_empty() {
-            return Ok(());
+            return;
         }
-        let number = self.made.saturating_add(i);
-        println!(out;
-            "  base {} broadcasts {number}: {}",
-            self.b,
+        let number = plus(self.made, i);
+        let _ = println!(out;
+            "{} broadcasts {number}: {}",
+            AtBase(self.b),
             BurstMessage { n: self.n, burst }
-        )
+        );
     }
 
     // The two frames of a start.
-    pub fn say_start(&self, out: &impl Print) -> io::Result<()> {
-        println!(out; "  base {} starts", self.b)?;
-        self.say_frame(out, 1)?;
+    pub fn of_start(&self, out: &impl Print) {
+        self.say_frame(out, 1);
         self.say_frame(out, 2)
     }
 
+    // That the base starts, and what it broadcasts by that.
+    pub fn say_start(&self, out: &impl Print) {
+        let _ = println!(out; "{} starts", AtBase(self.b));
+        self.of_start(out)
+    }
+
     // The frame behind those of a start: an idle base does not stop by its first message.
-    pub fn say_behind_start(&self, out: &impl Print) -> io::Result<()> {
+    pub fn say_behind_start(&self, out: &impl Print) {
         self.say_frame(out, 3)
     }
 
@@ -67,17 +71,16 @@ impl<'a> BaseCall<'a> {
     }
 
     // The frames before its check, or the last.
-    pub fn say_frames(&self, out: &impl Print, last: bool) -> io::Result<()> {
+    pub fn say_frames(&self, out: &impl Print, last: bool) {
         for i in 1..4 {
             if self.is_last(i) == last {
-                self.say_frame(out, i)?;
+                self.say_frame(out, i);
             }
         }
-        Ok(())
     }
 
     // The slots of what it broadcast, where it broadcast something.
-    pub fn say_slots(&self, out: &impl Print) -> io::Result<()> {
+    pub fn say_slots(&self, out: &impl Print) {
         let CallAnswer {
             first,
             own,
@@ -85,11 +88,11 @@ impl<'a> BaseCall<'a> {
             ..
         } = self.answer;
         if first == 0 {
-            return Ok(());
+            return;
         }
-        println!(out;
-            "  base {}, slots of this line: own {own}, relayed {relayed}",
-            self.b
-        )
+        let _ = println!(out;
+            "{}, slots of this line: own {own}, relayed {relayed}",
+            AtBase(self.b)
+        );
     }
 }

@@ -3,6 +3,16 @@ use frame::kind::{ANNOUNCE, CORRECT_FINAL, VERIFY};
 use readings::read_numbers;
 use std::fmt;
 
+// `  base 3`, with which a line begins that tells of a base.
+#[derive(Clone, Copy)]
+pub struct AtBase(pub u8);
+
+impl fmt::Display for AtBase {
+    fn fmt<W: fmt::Write>(&self, f: &mut fmt::Formatter<W>) -> fmt::Result {
+        write!(f, "  base {}", self.0)
+    }
+}
+
 // Each behind a blank.
 #[derive(Clone, Copy)]
 pub struct Identifiers<'a>(pub &'a [u32]);

@@ -10,23 +10,22 @@ pub mod waits;
 use header::read_header;
 use line_trace::line::show_line;
 use net::Header;
-use std::io;
+use parts::plus;
 
 // Every line that ends before a place.
-fn show_lines(out: &impl Print, s: &[u8], end: usize) -> io::Result<()> {
+fn show_lines(out: &impl Print, s: &[u8], end: usize) {
     let mut number: usize = 1;
     for ended in s.get(..end).unwrap_or(s).split_inclusive(|b| *b == b'\n') {
         if let Some(line) = ended.strip_suffix(b"\n") {
-            show_line(out, number, line)?;
+            show_line(out, number, line);
         }
-        number = number.saturating_add(1);
+        number = plus(number, 1);
     }
-    Ok(())
 }
 
 // The header, its lines shown up to one that is refused.
-pub fn show_header(out: &impl Print, schedule: &[u8]) -> io::Result<Header> {
+pub fn show_header(out: &impl Print, schedule: &[u8]) -> Header {
     let header = read_header(schedule);
-    show_lines(out, schedule, header.at)?;
-    Ok(header)
+    show_lines(out, schedule, header.at);
+    header
 }

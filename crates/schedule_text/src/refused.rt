@@ -5,7 +5,6 @@ use limits::refusal::FORM;
 use lines::event::Line;
 use net::nodes::node_at;
 use net::{Header, StoredNet};
-use std::io;
 
 // How many messages the sender of the next line, a carry, has broadcast; 0 of any other line.
 fn sender_broadcasts(s: &[u8], net: StoredNet) -> usize {
@@ -16,7 +15,7 @@ fn sender_broadcasts(s: &[u8], net: StoredNet) -> usize {
 }
 
 // Why a line of the header is refused.
-pub fn explain_header(out: &impl Print, schedule: &[u8], header: Header) -> io::Result<()> {
+pub fn explain_header(out: &impl Print, schedule: &[u8], header: Header) {
     explain(
         out,
         schedule,
@@ -33,7 +32,7 @@ pub fn explain_header(out: &impl Print, schedule: &[u8], header: Header) -> io::
 }
 
 // Why a line of events is refused.
-pub fn explain_event(out: &impl Print, schedule: &[u8], net: StoredNet) -> io::Result<()> {
+pub fn explain_event(out: &impl Print, schedule: &[u8], net: StoredNet) {
     explain(
         out,
         schedule,
@@ -50,7 +49,7 @@ pub fn explain_event(out: &impl Print, schedule: &[u8], net: StoredNet) -> io::R
 }
 
 // Of a schedule that is too long, line 1 is named.
-pub fn explain_length(out: &impl Print, schedule: &[u8]) -> io::Result<()> {
+pub fn explain_length(out: &impl Print, schedule: &[u8]) {
     explain(
         out,
         schedule,

@@ -3,17 +3,17 @@
 use crate::pairs::{Lacking, NAMED, lacks, more, separator};
 use counted_links::links_in;
 use numbering::link_at;
+use parts::plus;
 use protocol::Base;
-use std::io;
 
-pub fn missing_verifies(out: &impl Print, b: u8, base: Base) -> io::Result<()> {
-    print!(out; "  missing: ")?;
+pub fn missing_verifies(out: &impl Print, b: u8, base: Base) {
+    let _ = print!(out; "  missing: ");
     let mut named: usize = 0;
     for i in 1..=links_in(base.n) {
         let link = link_at(base, i);
         if lacks(link, link.announce) {
             if named < NAMED {
-                print!(out;
+                let _ = print!(out;
                     "{}{}",
                     separator(named),
                     Lacking {
@@ -21,9 +21,9 @@ pub fn missing_verifies(out: &impl Print, b: u8, base: Base) -> io::Result<()> {
                         i,
                         g: link.announce
                     }
-                )?;
+                );
             }
-            named = named.saturating_add(1);
+            named = plus(named, 1);
         }
     }
     more(out, named)

@@ -4,8 +4,9 @@ use held::has_announce;
 use held_lists::holds_verify;
 use limits::{MOST_FAULTY, MOST_LINKS};
 use numbering::{base_at, link_at};
+use parts::plus;
 use protocol::{Base, Link};
-use std::{fmt, io};
+use std::fmt;
 
 // Pairs that are named: as many as t can be, and the one that is too many.
 pub(crate) const NAMED: usize = MOST_FAULTY + 1;
@@ -107,7 +108,7 @@ fn link_pair(b: u8, base: Base, i: usize, j: usize) -> Option<SuspectPair> {
 }
 
 // The pairs of link i with the own identifier, as j = 0, and with the links before it. Answers how many pairs there are by now.
-fn pairs_of(out: &impl Print, b: u8, base: Base, i: usize, before: usize) -> io::Result<usize> {
+fn pairs_of(out: &impl Print, b: u8, base: Base, i: usize, before: usize) -> usize {
     let mut named = before;
     for j in 0..i {
         let pair = if j == 0 {
@@ -117,28 +118,28 @@ fn pairs_of(out: &impl Print, b: u8, base: Base, i: usize, before: usize) -> io:
         };
         if let Some(pair) = pair {
             if named < NAMED {
-                print!(out; "{}{pair}", separator(named))?;
+                let _ = print!(out; "{}{pair}", separator(named));
             }
-            named = named.saturating_add(1);
+            named = plus(named, 1);
         }
     }
-    Ok(named)
+    named
 }
 
 // How many there are besides those that are named.
-pub(crate) fn more(out: &impl Print, named: usize) -> io::Result<()> {
+pub(crate) fn more(out: &impl Print, named: usize) {
     if NAMED < named {
-        print!(out; "; and {} more", named - NAMED)?;
+        let _ = print!(out; "; and {} more", named - NAMED);
     }
-    println!(out)
+    let _ = println!(out);
 }
 
 // Those of a base that has some.
-pub fn suspect_pairs(out: &impl Print, b: u8, base: Base) -> io::Result<()> {
-    print!(out; "  suspect: ")?;
+pub fn suspect_pairs(out: &impl Print, b: u8, base: Base) {
+    let _ = print!(out; "  suspect: ");
     let mut named: usize = 0;
     for i in 1..=links_in(base.n) {
-        named = pairs_of(out, b, base, i, named)?;
+        named = pairs_of(out, b, base, i, named);
     }
     more(out, named)
 }
