@@ -22,7 +22,8 @@ pub fn check() -> Result<String, Vec<String>> {
     }
     let mut wrong = Vec::new();
     for file in below("crates", ".rt") {
-        let of_trait = lines_for_traits(&file.text);
+        let of_trait = lines_within(&file.text, |head| head.starts_with("impl") && head.contains(" for "));
+        let in_trait = lines_within(&file.text, |head| head.starts_with("pub trait "));
         for (i, line) in file.text.lines().enumerate() {
             let place = || format!("{}:{}", below_crates(&file.path), i + 1);
             let put = |places: &mut Places, name: Option<&str>| {
@@ -33,7 +34,8 @@ pub fn check() -> Result<String, Vec<String>> {
             put(&mut things, type_name(line).or_else(|| trait_name(line)));
             put(&mut constants, constant_name(line));
             put(&mut functions, function_name(line).filter(|name| !of_trait[i] && !hands_on(line, name, &file.text)));
-            let public = function_name(line).filter(|_| line.trim_start().starts_with("pub fn ") || line.starts_with("pub extern "));
+            let is_public = in_trait[i] || line.trim_start().starts_with("pub fn ") || line.starts_with("pub extern ");
+            let public = function_name(line).filter(|_| is_public);
             let other = public.filter(|name| definitions.contains(in_antt(name)) && !cites(&file.text, name, in_antt(name)));
             wrong.extend(other.map(|name| format!("{name} at {} has the name of a definition that it does not cite", place())));
         }
@@ -57,13 +59,12 @@ fn trait_name(line: &str) -> Option<&str> {
     rest.split(|c: char| !c.is_alphanumeric() && c != '_').next().filter(|_| before.is_empty() || before.starts_with("pub"))
 }
 
-/// Which lines stand in `impl TRAIT for TYPE {`.
-fn lines_for_traits(text: &str) -> Vec<bool> {
+/// Which lines stand below such a head, `impl TRAIT for TYPE {` or `pub trait NAME {`.
+fn lines_within(text: &str, is_head: impl Fn(&str) -> bool) -> Vec<bool> {
     let mut inside = false;
-    let begins = |line: &str| line.starts_with("impl") && line.contains(" for ");
     let each = text.lines().map(|line| {
         if !line.is_empty() && !line.starts_with(' ') {
-            inside = begins(line);
+            inside = is_head(line);
         }
         inside
     });

@@ -31,7 +31,10 @@ pub fn check() -> Result<String, Vec<String>> {
         ("the picture", arms("tools/hillpicture/refusals.rs"), 9),
     ];
     for (source, said, fewest) in sources {
-        let said = said.unwrap_or_default();
+        let said = said.unwrap_or_else(|error| {
+            wrong.push(error);
+            Vec::new()
+        });
         if said.len() < fewest {
             wrong.push(format!("{source} says {} numbers, expected {fewest}", said.len()));
         }
@@ -135,11 +138,12 @@ fn constants() -> Result<Vec<Said>, String> {
 fn meanings() -> Result<Vec<Said>, String> {
     let file = "crates/cause_text/src/meanings.rt";
     let mut found = arms(file)?;
+    let all_said = text_of(file)?.matches(" => ").count() == found.len();
     let other = found.pop().filter(|last| last.number.is_none() && last.words.is_empty());
     let in_order = found.iter().map(|said| said.number).eq((1..=OF_A_SCHEDULE).map(Some));
-    match other.is_some() && in_order {
+    match all_said && other.is_some() && in_order {
         true => Ok(found),
-        false => Err(format!("{file} has not each number in its order")),
+        false => Err(format!("{file} has not each number in its order, and no words for others")),
     }
 }
 

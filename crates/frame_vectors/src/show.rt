@@ -1,7 +1,7 @@
 // What a call answers, a line each.
 use message_text::message::first_identifiers;
 use reader::Reading;
-use std::{fmt, io};
+use std::fmt;
 use writer::Written;
 
 // Bytes in hexadecimal.

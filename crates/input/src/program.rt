@@ -18,9 +18,10 @@ pub trait Program {
     fn answer(&self, out: &impl Print, schedule: &[u8]) -> io::Result<()>;
 }
 
-fn say_program_failed<P: Program>(errors: &impl Print, what: &[u8], why: Error) {
-    let _ = print!(errors; "{}: ", P::NAME);
-    say_failed(errors, what, why);
+// The program's name and what failed are one piece.
+fn say_program_failed<P: Program>(errors: &impl Print, what: &str, why: Error) {
+    let _ = print!(errors; "{}: {what}", P::NAME);
+    say_failed(errors, b"", why);
 }
 
 // Reads the input into a buffer, of which no more than that is looked at, and answers it.
@@ -32,10 +33,10 @@ fn answer_input<P: Program>(
     buffer: &mut [u8],
 ) {
     match read_input(input, buffer) {
-        Err(why) => say_program_failed::<P>(errors, b"reading standard input", why),
+        Err(why) => say_program_failed::<P>(errors, "reading standard input", why),
         Ok(length) => {
             if let Err(why) = program.answer(out, &buffer[..length]) {
-                say_program_failed::<P>(errors, b"writing standard output", why);
+                say_program_failed::<P>(errors, "writing standard output", why);
             }
         }
     }
