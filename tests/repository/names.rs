@@ -34,8 +34,7 @@ pub fn check() -> Result<String, Vec<String>> {
             put(&mut things, type_name(line).or_else(|| trait_name(line)));
             put(&mut constants, constant_name(line));
             put(&mut functions, function_name(line).filter(|name| !of_trait[i] && !hands_on(line, name, &file.text)));
-            let is_public = in_trait[i] || line.trim_start().starts_with("pub fn ") || line.starts_with("pub extern ");
-            let public = function_name(line).filter(|_| is_public);
+            let public = function_name(line).filter(|_| in_trait[i] || is_public(line));
             let other = public.filter(|name| definitions.contains(in_antt(name)) && !cites(&file.text, name, in_antt(name)));
             wrong.extend(other.map(|name| format!("{name} at {} has the name of a definition that it does not cite", place())));
         }
@@ -51,6 +50,11 @@ pub fn check() -> Result<String, Vec<String>> {
         )),
         false => Err(wrong),
     }
+}
+
+/// `pub fn`, also of a type, and `pub extern`
+fn is_public(line: &str) -> bool {
+    ["pub fn ", "pub extern "].iter().any(|begin| line.trim_start().starts_with(begin))
 }
 
 /// `pub trait NAME {`
