@@ -22,8 +22,7 @@ pub fn check() -> Result<String, Vec<String>> {
     }
     let mut wrong = Vec::new();
     for file in below("crates", ".rt") {
-        let of_trait = lines_within(&file.text, |head| head.starts_with("impl") && head.contains(" for "));
-        let in_trait = lines_within(&file.text, |head| head.starts_with("pub trait "));
+        let (of_trait, in_trait) = (lines_within(&file.text, implements_trait), lines_within(&file.text, declares_trait));
         for (i, line) in file.text.lines().enumerate() {
             let place = || format!("{}:{}", below_crates(&file.path), i + 1);
             let put = |places: &mut Places, name: Option<&str>| {
@@ -63,7 +62,17 @@ fn trait_name(line: &str) -> Option<&str> {
     rest.split(|c: char| !c.is_alphanumeric() && c != '_').next().filter(|_| before.is_empty() || before.starts_with("pub"))
 }
 
-/// Which lines stand below such a head, `impl TRAIT for TYPE {` or `pub trait NAME {`.
+/// `impl TRAIT for TYPE {`
+fn implements_trait(head: &str) -> bool {
+    head.starts_with("impl") && head.contains(" for ")
+}
+
+/// `pub trait NAME {`
+fn declares_trait(head: &str) -> bool {
+    head.starts_with("pub trait ")
+}
+
+/// Which lines stand below such a head.
 fn lines_within(text: &str, is_head: impl Fn(&str) -> bool) -> Vec<bool> {
     let mut inside = false;
     let each = text.lines().map(|line| {
