@@ -36,7 +36,7 @@ fn vector(out: &impl Print, line: &[u8]) {
         Some(b't') => writes_two(out, line),
         _ => {
             let _ = out.write_all(line);
-            let _ = println!(out);
+            let _ = out.write_all(b"\n");
         }
     }
 }
