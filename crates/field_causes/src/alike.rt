@@ -8,8 +8,8 @@ fn alike(one: &[u8], other: &[u8], from: usize) -> bool {
     Form::of_line(one) == Form::of_line(other) && fields_from(one, from) == fields_from(other, from)
 }
 
-// The number of the first line of a schedule that is like that one, from a field on. As many lines are tried as there are bytes; behind the
-// last they are empty.
+// The number of the first line of a schedule that is like that one, from a field on; where none is, that of the last line tried. As many
+// lines are tried as the schedule has bytes, and those behind its end are empty.
 pub fn first_alike(s: &[u8], line: &[u8], from: usize) -> usize {
     let mut next: usize = 0;
     for k in 1..=s.len() {

@@ -1,5 +1,5 @@
 // What is said where a call of the system has failed.
-ghost use Rattle.std.specs.Prelude.{◌≤◌, length};
+ghost use Rattle.std.specs.Prelude.{◌≡◌, ◌≤◌, length, take};
 
 use std::io::{Error, Write};
 
@@ -8,7 +8,8 @@ const ROOM: usize = 320;
 
 // A text up to its end, a 0, or to the number that the library puts behind the system's words.
 fn words_of(text: &[u8]) -> &[u8]
-    ensures { length result.now ≤ length text.now }
+    ensures bound { length result.now ≤ length text.now }
+    ensures front { result.now ≡ take (length result.now) text.now }
 {
     for (i, b) in text.iter().enumerate() {
         if *b == 0 || text[i..].starts_with(b" (os error ") {
